@@ -1,0 +1,34 @@
+-- Document 01, "Refusal numbers": the number of each refusal, and the place given with it.
+use Prim.Native.Nat.{ℕ}
+use Rattle.refusal.specs.declared.Refusal.{Refusal}
+use Rattle.refusal.specs.declared.Refusal.the-variants.{BadBoard, FetchOutside, UnknownCode, CutShort, ReadOutside, WriteOutside, NoAdjustRow, BadEntry, NotFollowed, NotUpward, NotInstruction, BudgetTooLarge, LentTooShort}
+
+abbrev pub numberOf : Refusal → ℕ
+numberOf BadBoard = 1  -- board wrong, or PC odd or at least 2^24
+numberOf (FetchOutside p) = 2  -- fetch outside read-only memory
+numberOf (UnknownCode p) = 3  -- unknown code
+numberOf (CutShort p) = 4  -- cut short
+numberOf (ReadOutside p) = 5  -- data read outside both memories
+numberOf (WriteOutside p) = 6  -- data write outside working memory
+numberOf (NoAdjustRow p) = 7  -- DAA or DAS outside the rows
+numberOf (BadEntry p) = 8  -- entry odd or outside read-only memory
+numberOf (NotFollowed p) = 9  -- forbidden place: a call, JMP 59 or JMP 5B
+numberOf (NotUpward p) = 10  -- forbidden place: a path to a target not above its own address
+numberOf NotInstruction = 11  -- a field out of range
+numberOf BudgetTooLarge = 12  -- budget over 1,000,000
+numberOf (LentTooShort n) = 13  -- lent output or table too short
+
+abbrev pub placeOf : Refusal → ℕ
+placeOf BadBoard = 0
+placeOf (FetchOutside p) = p  -- address
+placeOf (UnknownCode p) = p  -- address
+placeOf (CutShort p) = p  -- address
+placeOf (ReadOutside p) = p  -- first failing address
+placeOf (WriteOutside p) = p  -- first failing address
+placeOf (NoAdjustRow p) = p  -- instruction
+placeOf (BadEntry p) = p  -- entry
+placeOf (NotFollowed p) = p  -- that place
+placeOf (NotUpward p) = p  -- that place
+placeOf NotInstruction = 0
+placeOf BudgetTooLarge = 0
+placeOf (LentTooShort n) = n  -- needed length

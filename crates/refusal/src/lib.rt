@@ -1,0 +1,63 @@
+// Why an entry of this product answers no: document 01, "Refusal numbers". `specs/Refusals.antt` has that table.
+ghost use mathlib.Core.Path.{_≡_};
+ghost use Rattle.refusal.specs.Refusals.{numberOf, placeOf};
+
+// A case for each number, with the place given, where it is not always 0.
+pub enum Refusal {
+    BadBoard,
+    FetchOutside(u32),
+    UnknownCode(u32),
+    CutShort(u32),
+    ReadOutside(u32),
+    WriteOutside(u32),
+    NoAdjustRow(u32),
+    BadEntry(u32),
+    NotFollowed(u32),
+    NotUpward(u32),
+    NotInstruction,
+    BudgetTooLarge,
+    LentTooShort(u32),
+}
+
+impl Refusal {
+    pub fn number(self) -> u32
+        ensures { λ n. ⌜ n ≡ numberOf self ⌝ }
+    {
+        match self {
+            Refusal::BadBoard => 1,
+            Refusal::FetchOutside(_) => 2,
+            Refusal::UnknownCode(_) => 3,
+            Refusal::CutShort(_) => 4,
+            Refusal::ReadOutside(_) => 5,
+            Refusal::WriteOutside(_) => 6,
+            Refusal::NoAdjustRow(_) => 7,
+            Refusal::BadEntry(_) => 8,
+            Refusal::NotFollowed(_) => 9,
+            Refusal::NotUpward(_) => 10,
+            Refusal::NotInstruction => 11,
+            Refusal::BudgetTooLarge => 12,
+            Refusal::LentTooShort(_) => 13,
+        }
+    }
+
+    // For LentTooShort the needed length.
+    pub fn place(self) -> u32
+        ensures { λ p. ⌜ p ≡ placeOf self ⌝ }
+    {
+        match self {
+            Refusal::BadBoard => 0,
+            Refusal::FetchOutside(p) => p,
+            Refusal::UnknownCode(p) => p,
+            Refusal::CutShort(p) => p,
+            Refusal::ReadOutside(p) => p,
+            Refusal::WriteOutside(p) => p,
+            Refusal::NoAdjustRow(p) => p,
+            Refusal::BadEntry(p) => p,
+            Refusal::NotFollowed(p) => p,
+            Refusal::NotUpward(p) => p,
+            Refusal::NotInstruction => 0,
+            Refusal::BudgetTooLarge => 0,
+            Refusal::LentTooShort(n) => n,
+        }
+    }
+}
