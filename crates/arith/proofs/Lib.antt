@@ -1,0 +1,4 @@
+pub mod Signed
+pub mod Once
+pub mod Bitwise
+pub mod Rows
