@@ -1,0 +1,199 @@
+// The board, and data accesses to its memories: read-only memory from 0, working memory from its base.
+use arith::Width;
+use refusal::Refusal;
+ghost use mathlib.Core.Path.{_≡_};
+ghost use Prim.Native.Nat.{_+_, _<_};
+ghost use lib.ListN.{length};
+ghost use Rattle.memory.specs.Board.{goodBoard};
+ghost use Rattle.memory.specs.Access.{address, evenAddress, secondAddress, inside, byteAt, wordAt};
+ghost use Rattle.memory.specs.Access.{readByte, readWord, readLong, readOf};
+ghost use Rattle.memory.specs.Mirror.{Number, Found};
+ghost use Rattle.memory.specs.Access.{putByte, putWord, writeByte, writeWord, writeLong, writeOf, wrote};
+
+// Where working memory begins. The lengths are those of the slices lent with it.
+pub struct Board {
+    pub base: u32,
+}
+
+pub enum Got {
+    Value(u32),
+    NotRead(Refusal),
+}
+
+pub enum Put {
+    Stored,
+    NotStored(Refusal),
+}
+
+pub fn good_board(b: Board, rom: &[u8], ram: &[u8]) -> bool
+    ensures { λ r. ⌜ r ≡ goodBoard b (length (now (rom .entry))) (length (now (ram .entry))) ⌝ }
+{
+    let base = b.base as usize;
+    (rom.len() % 2 == 0)
+        & (rom.len() <= 524288)
+        & (ram.len() % 2 == 0)
+        & (ram.len() <= 65536)
+        & (base % 2 == 0)
+        & (rom.len() <= base)
+        & (base + ram.len() <= 16777216)
+}
+
+fn address(a: u32) -> u32
+    ensures { λ r. ⌜ r ≡ address a ⌝ }
+{
+    a % 16777216
+}
+
+fn even_address(a: u32) -> u32
+    ensures { λ r. ⌜ r ≡ evenAddress a ⌝ }
+{
+    address(a) / 2 * 2
+}
+
+fn second_address(a: u32) -> u32
+    ensures { λ r. ⌜ r ≡ secondAddress a ⌝ }
+{
+    address(even_address(a) + 2)
+}
+
+// Whether the n bytes at p lie in the memory m that begins at start.
+fn holds(start: u32, m: &[u8], p: u32, n: u32) -> bool
+    ensures { λ r. ⌜ r ≡ inside start (length (now (m .entry))) p n ⌝ }
+{
+    let from = start as usize;
+    let at = p as usize;
+    let count = n as usize;
+    (from <= at) & (at + count <= from + m.len())
+}
+
+fn wide(x: u8) -> u32
+    ensures { λ r. ⌜ (r ≡ x) × (r < 256) ⌝ }
+{
+    x as u32
+}
+
+fn byte_at(m: &[u8], i: usize) -> u32
+    requires { ⌜ i < length (now m) ⌝ }
+    ensures { λ r. ⌜ r ≡ byteAt (now (m .entry)) i ⌝ }
+{
+    wide(m[i])
+}
+
+fn word_at(m: &[u8], i: usize) -> u32
+    requires { ⌜ i + 1 < length (now m) ⌝ }
+    ensures { λ r. ⌜ Number r (wordAt (now (m .entry)) i) 65536 ⌝ }
+{
+    wide(m[i]) * 256 + wide(m[i + 1])
+}
+
+fn read_byte(b: Board, rom: &[u8], ram: &[u8], p: u32) -> Got
+    ensures { λ r. ⌜ r ≡ readByte b (now (rom .entry)) (now (ram .entry)) p ⌝ }
+{
+    let base = b.base;
+    if holds(0, rom, p, 1) {
+        return Got::Value(byte_at(rom, p as usize));
+    }
+    if holds(base, ram, p, 1) {
+        return Got::Value(byte_at(ram, (p - base) as usize));
+    }
+    Got::NotRead(Refusal::ReadOutside(p))
+}
+
+fn read_word(b: Board, rom: &[u8], ram: &[u8], p: u32) -> Got
+    ensures { λ r. ⌜ Found r (readWord b (now (rom .entry)) (now (ram .entry)) p) 65536 ⌝ }
+{
+    let base = b.base;
+    if holds(0, rom, p, 2) {
+        return Got::Value(word_at(rom, p as usize));
+    }
+    if holds(base, ram, p, 2) {
+        return Got::Value(word_at(ram, (p - base) as usize));
+    }
+    Got::NotRead(Refusal::ReadOutside(p))
+}
+
+// The longword whose words lie at p and q.
+fn read_long(b: Board, rom: &[u8], ram: &[u8], p: u32, q: u32) -> Got
+    ensures { λ r. ⌜ r ≡ readLong b (now (rom .entry)) (now (ram .entry)) p q ⌝ }
+{
+    match read_word(b, rom, ram, p) {
+        Got::NotRead(f) => Got::NotRead(f),
+        Got::Value(x) => match read_word(b, rom, ram, q) {
+            Got::NotRead(f) => Got::NotRead(f),
+            Got::Value(y) => Got::Value(x * 65536 + y),
+        },
+    }
+}
+
+pub fn read(w: Width, b: Board, rom: &[u8], ram: &[u8], a: u32) -> Got
+    ensures { λ r. ⌜ r ≡ readOf w b (now (rom .entry)) (now (ram .entry)) a ⌝ }
+{
+    match w {
+        Width::Byte => read_byte(b, rom, ram, address(a)),
+        Width::Word => read_word(b, rom, ram, even_address(a)),
+        Width::Long => read_long(b, rom, ram, even_address(a), second_address(a)),
+    }
+}
+
+fn put_byte(m: &mut [u8], i: usize, x: u32)
+    requires { ⌜ i < length (now m) ⌝ }
+    ensures { λ _. ⌜ now (m .exit) ≡ putByte (now (m .entry)) i x ⌝ }
+{
+    m[i] = (x % 256) as u8;
+}
+
+fn put_word(m: &mut [u8], i: usize, x: u32)
+    requires { ⌜ i + 1 < length (now m) ⌝ }
+    ensures { λ _. ⌜ now (m .exit) ≡ putWord (now (m .entry)) i x ⌝ }
+{
+    m[i] = (x / 256 % 256) as u8;
+    m[i + 1] = (x % 256) as u8;
+}
+
+fn write_byte(b: Board, ram: &mut [u8], p: u32, x: u32) -> Put
+    ensures { λ r. ⌜ wrote r (now (ram .exit)) ≡ writeByte b (now (ram .entry)) p x ⌝ }
+{
+    let base = b.base;
+    if holds(base, &ram[..], p, 1) {
+        put_byte(ram, (p - base) as usize, x);
+        return Put::Stored;
+    }
+    Put::NotStored(Refusal::WriteOutside(p))
+}
+
+fn write_word(b: Board, ram: &mut [u8], p: u32, x: u32) -> Put
+    ensures { λ r. ⌜ wrote r (now (ram .exit)) ≡ writeWord b (now (ram .entry)) p x ⌝ }
+{
+    let base = b.base;
+    if holds(base, &ram[..], p, 2) {
+        put_word(ram, (p - base) as usize, x);
+        return Put::Stored;
+    }
+    Put::NotStored(Refusal::WriteOutside(p))
+}
+
+// Both words are looked at before either is stored.
+fn write_long(b: Board, ram: &mut [u8], p: u32, q: u32, x: u32) -> Put
+    ensures { λ r. ⌜ wrote r (now (ram .exit)) ≡ writeLong b (now (ram .entry)) p q x ⌝ }
+{
+    let base = b.base;
+    if holds(base, &ram[..], p, 2) {
+        if holds(base, &ram[..], q, 2) {
+            put_word(ram, (p - base) as usize, x / 65536);
+            put_word(ram, (q - base) as usize, x);
+            return Put::Stored;
+        }
+        return Put::NotStored(Refusal::WriteOutside(q));
+    }
+    Put::NotStored(Refusal::WriteOutside(p))
+}
+
+pub fn write(w: Width, b: Board, ram: &mut [u8], a: u32, x: u32) -> Put
+    ensures { λ r. ⌜ wrote r (now (ram .exit)) ≡ writeOf w b (now (ram .entry)) a x ⌝ }
+{
+    match w {
+        Width::Byte => write_byte(b, ram, address(a), x),
+        Width::Word => write_word(b, ram, even_address(a), x),
+        Width::Long => write_long(b, ram, even_address(a), second_address(a), x),
+    }
+}
