@@ -1,4 +1,6 @@
 // An instruction: a choice among document 01's groups, each with its own operand choice. A register is a digit of the code.
+ghost use mathlib.Core.Path.{_≡_};
+ghost use Rattle.codes.specs.States.{longStates, regStates, immStates, aluStates, shortMoveStates, longMoveStates, moveStates, bccStates, jmpStates, bsrStates, jsrStates, statesOf, goesOf};
 use arith::Width;
 use refusal::Refusal;
 
@@ -127,4 +129,171 @@ pub enum Decoded {
 pub enum Encoded {
     Written(usize),
     NotWritten(Refusal),
+}
+
+fn long_states(op: Op) -> u32
+    ensures { λ r. ⌜ r ≡ longStates op ⌝ }
+{
+    match op {
+        Op::Add => 2,
+        Op::Sub => 2,
+        Op::Cmp => 2,
+        Op::Mov => 2,
+        Op::Addx => 2,
+        Op::Subx => 2,
+        Op::Or => 4,
+        Op::Xor => 4,
+        Op::And => 4,
+    }
+}
+
+fn reg_states(op: Op, w: Width) -> u32
+    ensures { λ r. ⌜ r ≡ regStates op w ⌝ }
+{
+    match w {
+        Width::Byte => 2,
+        Width::Word => 2,
+        Width::Long => long_states(op),
+    }
+}
+
+fn imm_states(w: Width) -> u32
+    ensures { λ r. ⌜ r ≡ immStates w ⌝ }
+{
+    match w {
+        Width::Byte => 2,
+        Width::Word => 4,
+        Width::Long => 6,
+    }
+}
+
+fn alu_states(op: Op, w: Width, source: Source) -> u32
+    ensures { λ r. ⌜ r ≡ aluStates op w source ⌝ }
+{
+    match source {
+        Source::Reg(_) => reg_states(op, w),
+        Source::Imm(_) => imm_states(w),
+    }
+}
+
+fn short_move_states(p: Place) -> u32
+    ensures { λ r. ⌜ r ≡ shortMoveStates p ⌝ }
+{
+    match p {
+        Place::At(_) => 4,
+        Place::Abs8(_) => 4,
+        Place::Step(_) => 6,
+        Place::Disp(_, _) => 6,
+        Place::Abs16(_) => 6,
+        Place::Abs24(_) => 8,
+    }
+}
+
+fn long_move_states(p: Place) -> u32
+    ensures { λ r. ⌜ r ≡ longMoveStates p ⌝ }
+{
+    match p {
+        Place::At(_) => 8,
+        Place::Abs8(_) => 8,
+        Place::Step(_) => 10,
+        Place::Disp(_, _) => 10,
+        Place::Abs16(_) => 10,
+        Place::Abs24(_) => 12,
+    }
+}
+
+fn move_states(w: Width, p: Place) -> u32
+    ensures { λ r. ⌜ r ≡ moveStates w p ⌝ }
+{
+    match w {
+        Width::Byte => short_move_states(p),
+        Width::Word => short_move_states(p),
+        Width::Long => long_move_states(p),
+    }
+}
+
+fn bcc_states(reach: Reach) -> u32
+    ensures { λ r. ⌜ r ≡ bccStates reach ⌝ }
+{
+    match reach {
+        Reach::Near(_) => 4,
+        Reach::Far(_) => 6,
+    }
+}
+
+fn jmp_states(target: Target) -> u32
+    ensures { λ r. ⌜ r ≡ jmpStates target ⌝ }
+{
+    match target {
+        Target::ByReg(_) => 4,
+        Target::Direct(_) => 6,
+        Target::Vector(_) => 10,
+    }
+}
+
+fn bsr_states(reach: Reach) -> u32
+    ensures { λ r. ⌜ r ≡ bsrStates reach ⌝ }
+{
+    match reach {
+        Reach::Near(_) => 8,
+        Reach::Far(_) => 10,
+    }
+}
+
+fn jsr_states(target: Target) -> u32
+    ensures { λ r. ⌜ r ≡ jsrStates target ⌝ }
+{
+    match target {
+        Target::ByReg(_) => 8,
+        Target::Direct(_) => 10,
+        Target::Vector(_) => 12,
+    }
+}
+
+// The states of an instruction, all memory on chip.
+pub fn states(i: Instruction) -> u32
+    ensures { λ r. ⌜ r ≡ statesOf i ⌝ }
+{
+    match i {
+        Instruction::Nop => 2,
+        Instruction::Stc(_) => 2,
+        Instruction::LdcReg(_) => 2,
+        Instruction::Ccr(_, _) => 2,
+        Instruction::Alu(op, w, source, _) => alu_states(op, w, source),
+        Instruction::IncDec(_, _, _, _) => 2,
+        Instruction::AddsSubs(_, _, _) => 2,
+        Instruction::Decimal(_, _) => 2,
+        Instruction::Shift(_, _, _) => 2,
+        Instruction::Unary(_, _, _) => 2,
+        Instruction::Move(_, w, p, _) => move_states(w, p),
+        Instruction::Bcc(_, reach) => bcc_states(reach),
+        Instruction::Jmp(target) => jmp_states(target),
+        Instruction::Bsr(reach) => bsr_states(reach),
+        Instruction::Jsr(target) => jsr_states(target),
+        Instruction::Rts => 10,
+    }
+}
+
+// Where an instruction lets PC go.
+pub fn goes_to(i: Instruction) -> Goes
+    ensures { λ r. ⌜ r ≡ goesOf i ⌝ }
+{
+    match i {
+        Instruction::Nop => Goes::Onward,
+        Instruction::Stc(_) => Goes::Onward,
+        Instruction::LdcReg(_) => Goes::Onward,
+        Instruction::Ccr(_, _) => Goes::Onward,
+        Instruction::Alu(_, _, _, _) => Goes::Onward,
+        Instruction::IncDec(_, _, _, _) => Goes::Onward,
+        Instruction::AddsSubs(_, _, _) => Goes::Onward,
+        Instruction::Decimal(_, _) => Goes::Onward,
+        Instruction::Shift(_, _, _) => Goes::Onward,
+        Instruction::Unary(_, _, _) => Goes::Onward,
+        Instruction::Move(_, _, _, _) => Goes::Onward,
+        Instruction::Bcc(c, reach) => Goes::Branches(c, reach),
+        Instruction::Jmp(target) => Goes::Jumps(target),
+        Instruction::Bsr(reach) => Goes::CallsNear(reach),
+        Instruction::Jsr(target) => Goes::Calls(target),
+        Instruction::Rts => Goes::Returns,
+    }
 }

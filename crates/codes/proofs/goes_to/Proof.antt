@@ -1,0 +1,15 @@
+use borrow.Author.Needs.{needs}
+use Rattle.codes.proofs.goes_to.Statement.{statement}
+use Rattle.codes.proofs.goes_to.Tie as tie
+
+pub goes-to-spec : {M : Type 1} → statement M
+goes-to-spec =
+    tie.close
+    (tie.spec (λ c. search needs) (λ c. search needs) (λ c. search needs) (λ c. search needs) (λ c. search needs) (λ c. search needs)
+    (λ c. search needs) (λ c. search needs) (λ c. search needs) (λ c. search needs) (λ c. search needs) (λ c. search needs)
+    (λ c. search needs) (λ c. search needs) (λ c. search needs) (λ c. search needs) (λ c. rw (c .enum-told .given .1))
+    (λ c. rw (c .enum-told2 .given .1)) (λ c. rw (c .enum-told3 .given .1)) (λ c. rw (c .enum-told4 .given .1))
+    (λ c. rw (c .enum-told5 .given .1)) (λ c. rw (c .enum-told6 .given .1)) (λ c. rw (c .enum-told7 .given .1))
+    (λ c. rw (c .enum-told8 .given .1)) (λ c. rw (c .enum-told9 .given .1)) (λ c. rw (c .enum-told10 .given .1))
+    (λ c. rw (c .enum-told11 .given .1)) (λ c. rw (c .before .i .given .1)) (λ c. rw (c .before .i2 .given .1))
+    (λ c. rw (c .before .i3 .given .1)) (λ c. rw (c .before .i4 .given .1)) (λ c. rw (c .enum-told12 .given .1)))

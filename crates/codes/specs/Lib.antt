@@ -1,0 +1,5 @@
+pub mod Names
+pub mod Code
+pub mod Valid
+pub mod States
+pub mod Exact
