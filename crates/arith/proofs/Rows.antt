@@ -7,7 +7,7 @@ use native.Mathlib.Omega.{arith}
 use lib.Dec.{leb, eqb}
 use lib.ListN.{getD, length}
 use borrow.Author.Tests.{leb-true, le-leb, eqb-true, eq-eqb, not-true}
-use Rattle.arith.specs.Widths.{num, pick}
+use Rattle.arith.specs.Widths.{num}
 use Rattle.arith.specs.Decimal.{fitsRow, findRow, adjustOf, daaRows, dasRows}
 use Rattle.arith.specs.declared.Adjust.{Adjust}
 use Rattle.arith.specs.declared.Adjust.the-variants.{Adding, NoRow}

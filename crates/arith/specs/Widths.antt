@@ -1,6 +1,6 @@
 -- The three widths of an operand, and how a number of k bits is read.
 use Prim.Native.Nat.{ℕ, _-_, _%_, _^_}
-use mathlib.Core.Bool.{Bool, true, false, _&&_, not}
+use mathlib.Core.Bool.{Bool, true, false, cond, _&&_}
 use lib.Dec.{leb, ltb, eqb}
 use lib.IntN.{ℤ, pos, subℕ}
 use lib.Signed.{leZ, ltZ}
@@ -13,10 +13,6 @@ abbrev pub bitsOf : Width → ℕ
 bitsOf Byte = 8
 bitsOf Word = 16
 bitsOf Long = 32
-
-abbrev pub pick : {A : Type 0} → Bool → A → A → A
-pick true a b = a
-pick false a b = b
 
 abbrev pub num : Bool → ℕ
 num true = 1
@@ -31,7 +27,7 @@ topBit k a = leb (2 ^ (k - 1)) (a % 2 ^ k)
 
 -- what the low k bits mean as a signed number, in two's complement
 unfoldable pub signedOf : ℕ → ℕ → ℤ
-signedOf k a = pick (topBit k a) (subℕ (a % 2 ^ k) (2 ^ k)) (pos (a % 2 ^ k))
+signedOf k a = cond (topBit k a) (subℕ (a % 2 ^ k) (2 ^ k)) (pos (a % 2 ^ k))
 
 -- a signed number of k bits has room for z: -2 ^ (k - 1) ≤ z < 2 ^ (k - 1)
 unfoldable pub fitsIn : ℕ → ℤ → Bool

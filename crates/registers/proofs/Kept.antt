@@ -2,7 +2,7 @@
 use Prim.Native.Nat.{ℕ, _+_, _*_, _/_, _%_, _^_, _≤_, _<_, min, max}
 use mathlib.Core.Path.{_≡_, refl, sym, _∙_, ap}
 use mathlib.Core.Logic.{_≢_}
-use mathlib.Core.Bool.{Bool, true, false}
+use mathlib.Core.Bool.{cond, Bool, true, false}
 use mathlib.Core.List.{List}
 use native.Mathlib.Nat.{mod-lt}
 use native.Mathlib.Omega.{arith}
@@ -10,7 +10,7 @@ use borrow.Author.Tests.{eqb-true, eqb-false}
 use lib.Dec.{ltb, eqb}
 use lib.ListN.{getD, set, length, length-set}
 use lib.Seq.{getD-set-same, getD-set-other}
-use Rattle.arith.specs.Widths.{bitsOf, pick}
+use Rattle.arith.specs.Widths.{bitsOf}
 use Rattle.arith.specs.declared.Width.{Width}
 use Rattle.arith.specs.declared.Width.the-variants.{Byte, Word, Long}
 use Rattle.registers.specs.declared.Registers.{Registers}
@@ -18,7 +18,7 @@ use Rattle.registers.specs.Parts.{belowOf, partOf, insertOf, withPart, w
 
 -- the five kinds of part: RnH, RnL, Rn, En, ERn, by what lies below and by the part's own power
 module _ (P : ℕ → ℕ → Type 0) (RnH : P 256 256) (RnL : P 1 256) (Rn : P 1 65536) (En : P 65536 65536) (ERn : P 1 4294967296) where
-  half : (p q m : ℕ) → P p m → P q m → (b : Bool) → P (pick b p q) m
+  half : (p q m : ℕ) → P p m → P q m → (b : Bool) → P (cond b p q) m
   half p q m x y true = x
   half p q m x y false = y
 

@@ -1,11 +1,12 @@
 -- The parts of the registers by their digits (document 01, "Codes"; manual 002:1141-1164), and PC.
 -- Byte: 0 to 7 are R0H to R7H, 8 to F are R0L to R7L. Word: 0 to 7 are R0 to R7, 8 to F are E0 to E7. ERn is En above Rn.
 use Prim.Native.Nat.{ℕ, _+_, _*_, _/_, _%_, _^_, _≤_}
+use mathlib.Core.Bool.{cond}
 use mathlib.Core.Path.{_≡_}
 use mathlib.Core.List.{List}
 use lib.Dec.{ltb}
 use lib.ListN.{getD, set}
-use Rattle.arith.specs.Widths.{bitsOf, pick}
+use Rattle.arith.specs.Widths.{bitsOf}
 use Rattle.arith.specs.declared.Width.{Width}
 use Rattle.arith.specs.declared.Width.the-variants.{Byte, Word, Long}
 use Rattle.registers.specs.declared.Condition.{Condition}
@@ -13,8 +14,8 @@ use Rattle.registers.specs.declared.Registers.{Registers}
 
 -- 2 to the number of bits of the register below the part
 abbrev pub belowOf : Width → ℕ → ℕ
-belowOf Byte d = pick (ltb d 8) (2 ^ 8) 1
-belowOf Word d = pick (ltb d 8) 1 (2 ^ 16)
+belowOf Byte d = cond (ltb d 8) (2 ^ 8) 1
+belowOf Word d = cond (ltb d 8) 1 (2 ^ 16)
 belowOf Long d = 1
 
 -- the part of digit d
