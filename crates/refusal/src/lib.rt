@@ -61,3 +61,9 @@ impl Refusal {
         }
     }
 }
+
+// How something that can be refused went.
+pub enum Outcome {
+    Done,
+    Refused(Refusal),
+}

@@ -1,0 +1,12 @@
+use Rattle.operate.specs.Operate.{carriedOf}
+use borrow.Author.Needs.{needs}
+use Rattle.operate.proofs.carried.Statement.{statement}
+use Rattle.operate.proofs.carried.Tie as tie
+
+pub carried-spec : {M : Type 1} → statement M
+unfolding carriedOf
+carried-spec =
+    tie.close
+    (tie.spec (λ c κs. search needs) (λ c. search needs) (λ c κs. search needs) (λ c κs. search needs)
+    (λ c. search needs) (λ c κs. search needs) (λ c κs. search needs)
+    (λ c. rw (c .before .before .enum-told .given .1) (cc)) (λ c. rw (c .before .before .enum-told2 .given .1) (cc)))

@@ -1,0 +1,8 @@
+use borrow.Author.Needs.{needs}
+use Rattle.operate.proofs.compared.Statement.{statement}
+use Rattle.operate.proofs.compared.Tie as tie
+
+pub compared-spec : {M : Type 1} → statement M
+compared-spec =
+    tie.close
+    (tie.spec (λ c κs. search needs) (λ c κs. search needs) (λ c. cc))

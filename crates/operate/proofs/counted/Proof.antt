@@ -1,0 +1,8 @@
+use borrow.Author.Needs.{needs}
+use Rattle.operate.proofs.counted.Statement.{statement}
+use Rattle.operate.proofs.counted.Tie as tie
+
+pub counted-spec : {M : Type 1} → statement M
+counted-spec =
+    tie.close
+    (tie.spec (λ c κs. search needs) (λ c κs. search needs) (λ c κs. search needs) (λ c. cc))

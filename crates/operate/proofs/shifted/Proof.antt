@@ -1,0 +1,8 @@
+use borrow.Author.Needs.{needs}
+use Rattle.operate.proofs.shifted.Statement.{statement}
+use Rattle.operate.proofs.shifted.Tie as tie
+
+pub shifted-spec : {M : Type 1} → statement M
+shifted-spec =
+    tie.close
+    (tie.spec (λ c κs. search needs) (λ c κs. search needs) (λ c κs. search needs) (λ c. cc))

@@ -1,0 +1,10 @@
+use Rattle.operate.specs.Operate.{stcOf}
+use borrow.Author.Needs.{needs}
+use Rattle.operate.proofs.stc.Statement.{statement}
+use Rattle.operate.proofs.stc.Tie as tie
+
+pub stc-spec : {M : Type 1} → statement M
+unfolding stcOf
+stc-spec =
+    tie.close
+    (tie.spec (λ c κs. search needs) (λ c. search needs) (λ c κs. search needs) (λ c. cc))

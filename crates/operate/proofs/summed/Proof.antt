@@ -1,0 +1,8 @@
+use borrow.Author.Needs.{needs}
+use Rattle.operate.proofs.summed.Statement.{statement}
+use Rattle.operate.proofs.summed.Tie as tie
+
+pub summed-spec : {M : Type 1} → statement M
+summed-spec =
+    tie.close
+    (tie.spec (λ c κs. search needs) (λ c κs. search needs) (λ c κs. search needs) (λ c. cc))
