@@ -85,7 +85,7 @@ module _ (b : Board) (rom ram : ℕ) where
         ram-most = leb-true ram 65536 i₄;
         base-even = eqb-true (b .base % 2) 0 i₅;
         base-above = leb-true rom (b .base) i₆;
-        end-most = leb-true (b .base + ram) (2 ^ 24) i₇
+        end-most = leb-true (b .base + ram) (2 ^ 24) i₇;
       }
 
   pub good-board : Good b rom ram → goodBoard b rom ram ≡ true
@@ -103,7 +103,7 @@ module _ (b : Board) (rom ram : ℕ) where
 
 same-test : (m n k : ℕ) → (m ≤ n → k ≤ n) → (n < m → n < k) → leb k n ≡ leb m n
 same-test m n k up over = go (leb m n) refl
-    where
+  where
     go : (t : Bool) → leb m n ≡ t → leb k n ≡ t
     go true e = le-leb k n (up (leb-true m n e))
     go false e = lt-leb k n (over (leb-false m n e))

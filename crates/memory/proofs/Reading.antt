@@ -75,4 +75,3 @@ module _ (b : Board) (rom ram : List ℕ) where
       (each-part b rom ram (λ x. Unit {0}) Five 2 wordAt (evenAddress a) tt tt (evenAddress a, refl, omega arith))
       (each-part b rom ram (λ x. Unit {0}) Five 2 wordAt (secondAddress a) tt tt (secondAddress a, refl, omega arith))
       (λ x y h i. tt)
-

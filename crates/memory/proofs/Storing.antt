@@ -123,7 +123,7 @@ word-apart m i x k h j l = rw (apart m i x k h j, apart m i x (k + 1) l (λ e. h
 
 room-inside : (n : ℕ) (b : Board) (ram : List ℕ) (p : ℕ) → room n b ram p ≡ Stored → inside (b .base) (length ram) p n ≡ true
 room-inside n b ram p e = go (inside (b .base) (length ram) p n) e
-    where
+  where
     go : (t : Bool) → cond t Stored (NotStored (WriteOutside p)) ≡ Stored → t ≡ true
     go true e = refl
     go false e = let z : _≡_ {A = ℕ} 0 1 = cc in absurd (omega arith)
@@ -202,4 +202,3 @@ module _ (b : Board) (ram : List ℕ) (a x k : ℕ) where
       let (i, j) = both-stored (room 2 b ram p) (room 2 b ram q) e in
       let (u, v) = neither (ofWord p (b .base + k)) (ofWord q (b .base + k)) h in
       word-stays q (putWord ram (p - b .base) (x / 65536)) (omega arith) j v x ∙ word-stays p ram (omega arith) i u (x / 65536)
-
