@@ -21,7 +21,7 @@ use Rattle.memory.specs.declared.Got.the-variants.{Value, NotRead}
 use Rattle.memory.specs.declared.Put.{Put}
 use Rattle.memory.specs.declared.Put.the-variants.{Stored, NotStored}
 
-both-true : (a b : Bool) → (a && b) ≡ true → (a ≡ true) × (b ≡ true)
+pub both-true : (a b : Bool) → (a && b) ≡ true → (a ≡ true) × (b ≡ true)
 both-true true b e = (refl, e)
 both-true false true e = (e, refl)
 both-true false false e = (e, e)

@@ -1,1 +1,5 @@
-pub mod Cases
+mod Cases
+mod Reading
+mod Storing
+pub mod Laws
+mod Edges

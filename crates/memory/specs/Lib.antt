@@ -1,3 +1,4 @@
 pub mod Board
 pub mod Access
 pub mod Mirror
+pub mod Reach
