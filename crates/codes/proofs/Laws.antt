@@ -1,9 +1,9 @@
 -- Laws over the code list and the states, for callers: every code has 2, 4, 6 or 8 bytes, each below 256; an instruction takes 2 to 12 states.
-use Prim.Native.Nat.{ℕ, _%_, _≤_, _<_}
+use Prim.Native.Nat.{ℕ, zero, suc, _%_, _≤_, _<_}
 use mathlib.Core.Path.{_≡_}
-use mathlib.Core.List.{List}
+use mathlib.Core.List.{List, [], _∷_}
 use native.Mathlib.Omega.{arith}
-use lib.ListN.{length}
+use lib.ListN.{length, getD, drop}
 use Rattle.codes.specs.Names.{Width, Byte, Word, Long, Op, Add, Sub, Cmp, Mov, Addx, Subx, Or, Xor, And, Source, Reg, Imm, Way, Up, Down, By, One, Two, Four}
 use Rattle.codes.specs.Names.{Turn, Shll, Shlr, Rotxl, Rotxr, Shal, Shar, Rotl, Rotr, Single, Not, Neg, Extu, Exts, Change, Orc, Xorc, Andc, Ldc}
 use Rattle.codes.specs.Names.{Dir, Load, Store, Place, At, Step, Disp, Abs8, Abs16, Abs24, Reach, Near, Far, Target, ByReg, Direct, Vector}
@@ -267,3 +267,14 @@ code-bytes i v = formed i v .0
 
 pub code-sized : (i : Instruction) → Valid i → Sized (lengthOf i)
 code-sized i v = formed i v .1
+
+-- ---- bytes of a slice
+
+pub bytes-of : (s : List ℕ) → ((k : ℕ) → getD s k 0 < 256) → Bytes s
+bytes-of [] f = tt
+bytes-of (x ∷ s) f = (f 0, bytes-of s (λ k. f (suc k)))
+
+pub bytes-drop : (k : ℕ) (s : List ℕ) → Bytes s → Bytes (drop k s)
+bytes-drop zero s h = h
+bytes-drop (suc k) [] h = tt
+bytes-drop (suc k) (x ∷ s) h = bytes-drop k s (h .1)

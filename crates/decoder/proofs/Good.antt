@@ -1,0 +1,347 @@
+-- What the plan of a word makes is an instruction, and its code is those bytes: a tree of the tests in the order of the mirror.
+use Prim.Native.Nat.{ℕ, suc, zero-le, _+_, _-_, _*_, _/_, _%_, _≤_, _<_}
+use mathlib.Core.Path.{_≡_, refl, sym, ap, ap₂, _∙_, subst}
+use mathlib.Core.Bool.{Bool, true, false}
+use mathlib.Core.List.{List, [], _∷_, _++_}
+use native.Mathlib.Omega.{arith}
+use native.Mathlib.Nat.{div-add-mod'}
+use lib.Dec.{ltb, eqb}
+use borrow.Author.Tests.{eqb-true, ltb-true, ltb-false, eqb-false}
+use Rattle.decoder.specs.Names.{Width, Byte, Word, Long, Op, Add, Sub, Cmp, Mov, Or, Xor, And, Reg, Way, Up, Down, One, Two, Four, Turn, Shll}
+use Rattle.decoder.specs.Names.{Shlr, Rotxl, Rotxr, Shal, Shar, Rotl, Rotr, Not, Neg, Extu, Exts, Dir, Load, Store, Place, At, Step, Disp, Abs16}
+use Rattle.decoder.specs.Names.{Abs24, ByReg, Instruction, Alu, IncDec, AddsSubs, Shift, Unary, Move, Jmp, Jsr, Rest, Plan, Whole, Lacks}
+use Rattle.decoder.specs.Names.{Nothing, Mode, Plain, Stepping, Displaced, Absolute, Tail, Bits16, Bits24, Bits32}
+use Rattle.codes.specs.Code.{_·_, be16, be24, wayDigit, digit013, digit89B, firstDigit, nextDigit, dirDigit, codeOf}
+use Rattle.codes.specs.Valid.{Digit, HasReg, HasImm, HasPlace, Valid}
+use Rattle.decoder.specs.MirrorDecode.{tailOf, fillOf}
+use Rattle.decoder.specs.MirrorWords.{pick, below, regReg, longReg, incDecOf, shiftOf, unaryOf, row0, row1, row5, memoryOf, row6, firstOp}
+use Rattle.decoder.specs.MirrorWords.{nextOp, row7, planOf, longMemory, longLogic, after00, afterF0, afterOf}
+
+-- ---- a plan is good after the bytes pre and for the word a b: what it makes is an instruction, and its code is those bytes
+
+abbrev pub Codes : List ℕ → ℕ → ℕ → Instruction → List ℕ → Type 0
+Codes pre a b i t = Valid i × (codeOf i ≡ pre ++ (a ∷ b ∷ t))
+
+abbrev pub Good2 : List ℕ → ℕ → ℕ → Rest → Type 0
+Good2 pre a b q = (x y : ℕ) → x < 256 → y < 256 → Codes pre a b (fillOf q (x * 256 + y)) (x ∷ y ∷ [])
+
+abbrev pub Good3 : List ℕ → ℕ → ℕ → Rest → Type 0
+Good3 pre a b q =
+    (y z w : ℕ) → y < 256 → z < 256 → w < 256 → Codes pre a b (fillOf q (0 * 16777216 + y * 65536 + z * 256 + w)) (0 ∷ y ∷ z ∷ w ∷ [])
+
+abbrev pub Good4 : List ℕ → ℕ → ℕ → Rest → Type 0
+Good4 pre a b q =
+    (x y z w : ℕ) → x < 256 → y < 256 → z < 256 → w < 256 → Codes pre a b (fillOf q (x * 16777216 + y * 65536 + z * 256 + w)) (x ∷ y ∷ z ∷ w ∷ [])
+
+abbrev pub GoodTail : Tail → List ℕ → ℕ → ℕ → Rest → Type 0
+GoodTail Bits16 pre a b q = Good2 pre a b q
+GoodTail Bits24 pre a b q = Good3 pre a b q
+GoodTail Bits32 pre a b q = Good4 pre a b q
+
+abbrev pub Good : List ℕ → ℕ → ℕ → Plan → Type 0
+Good pre a b (Whole i) = Codes pre a b i []
+Good pre a b (Lacks q) = GoodTail (tailOf q) pre a b q
+Good pre a b Nothing = Unit {0}
+
+-- ---- a test splits the proof
+
+pub if≡ : {A : Type 0} (P : A → Type 0) (x k : ℕ) {u v : A} → (x ≡ k → P u) → ((x ≡ k → ⊥) → P v) → P (pick (eqb x k) u v)
+if≡ P x k {u} {v} f g = go (eqb x k) refl
+  where
+    go : (t : Bool) → eqb x k ≡ t → P (pick t u v)
+    go true e = f (eqb-true x k e)
+    go false e = g (eqb-false x k e)
+
+if< : {A : Type 0} (P : A → Type 0) (x k : ℕ) {u v : A} → (x < k → P u) → (k ≤ x → P v) → P (pick (ltb x k) u v)
+if< P x k {u} {v} f g = go (ltb x k) refl
+  where
+    go : (t : Bool) → ltb x k ≡ t → P (pick t u v)
+    go true e = f (ltb-true x k e)
+    go false e = g (ltb-false x k e)
+
+two≡ : {a b c d : ℕ} → a ≡ c → b ≡ d → a ∷ b ∷ [] ≡ c ∷ d ∷ []
+two≡ p q = ap₂ (λ x y. x ∷ y ∷ []) p q
+
+four≡ : (pre : List ℕ) {a b x y a' b' x' y' : ℕ} → a ≡ a' → b ≡ b' → x ≡ x' → y ≡ y' → pre ++ (a ∷ b ∷ x ∷ y ∷ []) ≡ pre ++ (a' ∷ b' ∷ x' ∷ y' ∷ [])
+four≡ pre p q r t = λ i. pre ++ (p i ∷ q i ∷ r i ∷ t i ∷ [])
+
+six≡ : (pre : List ℕ) {a b x y z a' b' x' y' z' : ℕ} → a ≡ a' → b ≡ b' → x ≡ x' → y ≡ y' → z ≡ z'
+    → pre ++ (a ∷ b ∷ 0 ∷ x ∷ y ∷ z ∷ []) ≡ pre ++ (a' ∷ b' ∷ 0 ∷ x' ∷ y' ∷ z' ∷ [])
+six≡ pre p q r s t = λ i. pre ++ (p i ∷ q i ∷ 0 ∷ r i ∷ s i ∷ t i ∷ [])
+
+-- ---- the parts
+
+module _ (a b : ℕ) (hb : b < 256) where
+  short-good : (d : ℕ) (i : Instruction) → (d < 8 → Codes [] a b i []) → Good [] a b (below d 8 (Whole i))
+  short-good d i f = if< (Good [] a b) d 8 f (λ h. tt)
+
+  incDecs-good : (way : Way) → wayDigit way · 0xB ≡ a → Good [] a b (incDecOf way b)
+  incDecs-good way e =
+      if≡ (Good [] a b) (b / 16) 0 (λ h. short-good (b % 16) (AddsSubs way One (b % 16)) (λ k. (omega arith, two≡ e (omega arith)))) λ n0.
+      if≡ (Good [] a b) (b / 16) 8 (λ h. short-good (b % 16) (AddsSubs way Two (b % 16)) (λ k. (omega arith, two≡ e (omega arith)))) λ n8.
+      if≡ (Good [] a b) (b / 16) 9 (λ h. short-good (b % 16) (AddsSubs way Four (b % 16)) (λ k. (omega arith, two≡ e (omega arith)))) λ n9.
+      if≡ (Good [] a b) (b / 16) 5 (λ h. (omega arith, two≡ e (omega arith))) λ n5.
+      if≡ (Good [] a b) (b / 16) 13 (λ h. (omega arith, two≡ e (omega arith))) λ n13.
+      if≡ (Good [] a b) (b / 16) 7 (λ h. short-good (b % 16) (IncDec way Long One (b % 16)) (λ k. (omega arith, two≡ e (omega arith)))) λ n7.
+      if≡ (Good [] a b) (b / 16) 15 (λ h. short-good (b % 16) (IncDec way Long Two (b % 16)) (λ k. (omega arith, two≡ e (omega arith)))) λ n15. tt
+
+  shifts-good : (t u : Turn) → ((w : Width) (r : ℕ) → codeOf (Shift t w r) ≡ a ∷ digit013 w · r ∷ []) → ((w : Width) (r : ℕ) → codeOf (Shift u w r) ≡ a ∷ digit89B w · r ∷ [])
+      → Good [] a b (shiftOf t u b)
+  shifts-good t u f g =
+      if≡ (Good [] a b) (b / 16) 0 (λ h. (omega arith, f Byte (b % 16) ∙ two≡ refl (omega arith))) λ n0.
+      if≡ (Good [] a b) (b / 16) 1 (λ h. (omega arith, f Word (b % 16) ∙ two≡ refl (omega arith))) λ n1.
+      if≡ (Good [] a b) (b / 16) 3 (λ h. short-good (b % 16) (Shift t Long (b % 16)) (λ k. (k, f Long (b % 16) ∙ two≡ refl (omega arith)))) λ n3.
+      if≡ (Good [] a b) (b / 16) 8 (λ h. (omega arith, g Byte (b % 16) ∙ two≡ refl (omega arith))) λ n8.
+      if≡ (Good [] a b) (b / 16) 9 (λ h. (omega arith, g Word (b % 16) ∙ two≡ refl (omega arith))) λ n9.
+      if≡ (Good [] a b) (b / 16) 11 (λ h. short-good (b % 16) (Shift u Long (b % 16)) (λ k. (k, g Long (b % 16) ∙ two≡ refl (omega arith)))) λ n11. tt
+
+  unaries-good : 0x17 ≡ a → Good [] a b (unaryOf b)
+  unaries-good e =
+      if≡ (Good [] a b) (b / 16) 0 (λ h. (omega arith, two≡ e (omega arith))) λ n0.
+      if≡ (Good [] a b) (b / 16) 1 (λ h. (omega arith, two≡ e (omega arith))) λ n1.
+      if≡ (Good [] a b) (b / 16) 3 (λ h. short-good (b % 16) (Unary Not Long (b % 16)) (λ k. (omega arith, two≡ e (omega arith)))) λ n3.
+      if≡ (Good [] a b) (b / 16) 8 (λ h. (omega arith, two≡ e (omega arith))) λ n8.
+      if≡ (Good [] a b) (b / 16) 9 (λ h. (omega arith, two≡ e (omega arith))) λ n9.
+      if≡ (Good [] a b) (b / 16) 11 (λ h. short-good (b % 16) (Unary Neg Long (b % 16)) (λ k. (omega arith, two≡ e (omega arith)))) λ n11.
+      if≡ (Good [] a b) (b / 16) 5 (λ h. (omega arith, two≡ e (omega arith))) λ n5.
+      if≡ (Good [] a b) (b / 16) 7 (λ h. short-good (b % 16) (Unary Extu Long (b % 16)) (λ k. (omega arith, two≡ e (omega arith)))) λ n7.
+      if≡ (Good [] a b) (b / 16) 13 (λ h. (omega arith, two≡ e (omega arith))) λ n13.
+      if≡ (Good [] a b) (b / 16) 15 (λ h. short-good (b % 16) (Unary Exts Long (b % 16)) (λ k. (omega arith, two≡ e (omega arith)))) λ n15. tt
+
+  -- (8+e)e
+  long-good : (op : Op) → HasReg op Long → ((s d : ℕ) → codeOf (Alu op Long (Reg s) d) ≡ a ∷ (8 + s) · d ∷ []) → Good [] a b (longReg op b)
+  long-good op has f =
+      if< (Good [] a b) b 128 (λ h. tt) λ h.
+      short-good (b % 16) (Alu op Long (Reg (b / 16 - 8)) (b % 16))
+      (λ k. ((has, omega arith, k), f (b / 16 - 8) (b % 16) ∙ two≡ refl (omega arith)))
+
+  row0-good : a / 16 ≡ 0 → Good [] a b (row0 (a % 16) b)
+  row0-good z =
+      if≡ (Good [] a b) (a % 16) 0 (λ h. if≡ (Good [] a b) b 0 (λ k. (tt, two≡ (omega arith) (omega arith))) (λ k. tt)) λ n0.
+      if≡ (Good [] a b) (a % 16) 2 (λ h. if< (Good [] a b) b 16 (λ k. (k, two≡ (omega arith) (omega arith))) (λ k. tt)) λ n2.
+      if≡ (Good [] a b) (a % 16) 3 (λ h. if< (Good [] a b) b 16 (λ k. (k, two≡ (omega arith) (omega arith))) (λ k. tt)) λ n3.
+      if≡ (Good [] a b) (a % 16) 4 (λ h. (hb, two≡ (omega arith) refl)) λ n4.
+      if≡ (Good [] a b) (a % 16) 5 (λ h. (hb, two≡ (omega arith) refl)) λ n5.
+      if≡ (Good [] a b) (a % 16) 6 (λ h. (hb, two≡ (omega arith) refl)) λ n6.
+      if≡ (Good [] a b) (a % 16) 7 (λ h. (hb, two≡ (omega arith) refl)) λ n7.
+      if≡ (Good [] a b) (a % 16) 8 (λ h. (omega arith, two≡ (omega arith) (omega arith))) λ n8.
+      if≡ (Good [] a b) (a % 16) 9 (λ h. (omega arith, two≡ (omega arith) (omega arith))) λ n9.
+      if≡ (Good [] a b) (a % 16) 10
+      (λ h. if< (Good [] a b) b 16 (λ k. (omega arith, two≡ (omega arith) (omega arith))) (λ k. long-good Add tt (λ s d. two≡ (omega arith) refl))) λ n10.
+      if≡ (Good [] a b) (a % 16) 11 (λ h. incDecs-good Up (omega arith)) λ n11.
+      if≡ (Good [] a b) (a % 16) 12 (λ h. (omega arith, two≡ (omega arith) (omega arith))) λ n12.
+      if≡ (Good [] a b) (a % 16) 13 (λ h. (omega arith, two≡ (omega arith) (omega arith))) λ n13.
+      if≡ (Good [] a b) (a % 16) 14 (λ h. (omega arith, two≡ (omega arith) (omega arith))) λ n14.
+      if≡ (Good [] a b) (a % 16) 15
+      (λ h. if< (Good [] a b) b 16 (λ k. (k, two≡ (omega arith) (omega arith))) (λ k. long-good Mov tt (λ s d. two≡ (omega arith) refl))) λ n15. tt
+
+  row1-good : a / 16 ≡ 1 → Good [] a b (row1 (a % 16) b)
+  row1-good z =
+      if≡ (Good [] a b) (a % 16) 0 (λ h. shifts-good Shll Shal (λ w r. two≡ (omega arith) refl) (λ w r. two≡ (omega arith) refl)) λ n0.
+      if≡ (Good [] a b) (a % 16) 1 (λ h. shifts-good Shlr Shar (λ w r. two≡ (omega arith) refl) (λ w r. two≡ (omega arith) refl)) λ n1.
+      if≡ (Good [] a b) (a % 16) 2 (λ h. shifts-good Rotxl Rotl (λ w r. two≡ (omega arith) refl) (λ w r. two≡ (omega arith) refl)) λ n2.
+      if≡ (Good [] a b) (a % 16) 3 (λ h. shifts-good Rotxr Rotr (λ w r. two≡ (omega arith) refl) (λ w r. two≡ (omega arith) refl)) λ n3.
+      if≡ (Good [] a b) (a % 16) 4 (λ h. (omega arith, two≡ (omega arith) (omega arith))) λ n4.
+      if≡ (Good [] a b) (a % 16) 5 (λ h. (omega arith, two≡ (omega arith) (omega arith))) λ n5.
+      if≡ (Good [] a b) (a % 16) 6 (λ h. (omega arith, two≡ (omega arith) (omega arith))) λ n6.
+      if≡ (Good [] a b) (a % 16) 7 (λ h. unaries-good (omega arith)) λ n7.
+      if≡ (Good [] a b) (a % 16) 8 (λ h. (omega arith, two≡ (omega arith) (omega arith))) λ n8.
+      if≡ (Good [] a b) (a % 16) 9 (λ h. (omega arith, two≡ (omega arith) (omega arith))) λ n9.
+      if≡ (Good [] a b) (a % 16) 10
+      (λ h. if< (Good [] a b) b 16 (λ k. (omega arith, two≡ (omega arith) (omega arith))) (λ k. long-good Sub tt (λ s d. two≡ (omega arith) refl))) λ n10.
+      if≡ (Good [] a b) (a % 16) 11 (λ h. incDecs-good Down (omega arith)) λ n11.
+      if≡ (Good [] a b) (a % 16) 12 (λ h. (omega arith, two≡ (omega arith) (omega arith))) λ n12.
+      if≡ (Good [] a b) (a % 16) 13 (λ h. (omega arith, two≡ (omega arith) (omega arith))) λ n13.
+      if≡ (Good [] a b) (a % 16) 14 (λ h. (omega arith, two≡ (omega arith) (omega arith))) λ n14.
+      if≡ (Good [] a b) (a % 16) 15
+      (λ h. if< (Good [] a b) b 16 (λ k. (k, two≡ (omega arith) (omega arith))) (λ k. long-good Cmp tt (λ s d. two≡ (omega arith) refl))) λ n15. tt
+
+  row5-good : a / 16 ≡ 5 → Good [] a b (row5 (a % 16) b)
+  row5-good z =
+      if≡ (Good [] a b) (a % 16) 4 (λ h. if≡ (Good [] a b) b 112 (λ k. (tt, two≡ (omega arith) (omega arith))) (λ k. tt)) λ n4.
+      if≡ (Good [] a b) (a % 16) 5 (λ h. (hb, two≡ (omega arith) refl)) λ n5.
+      if≡ (Good [] a b) (a % 16) 8 (λ h. if≡ (Good [] a b) (b % 16) 0 (λ k x y hx hy. (omega arith, four≡ [] (omega arith) (omega arith) (omega arith) (omega arith))) (λ k. tt)) λ n8.
+      if≡ (Good [] a b) (a % 16) 9
+      (λ h. if≡ (Good [] a b) (b % 16) 0 (λ k. short-good (b / 16) (Jmp (ByReg (b / 16))) (λ m. (m, two≡ (omega arith) (omega arith)))) (λ k. tt)) λ n9.
+      if≡ (Good [] a b) (a % 16) 10 (λ h x y hx hy. (omega arith, four≡ [] (omega arith) (omega arith) (omega arith) (omega arith))) λ n10.
+      if≡ (Good [] a b) (a % 16) 11 (λ h. (hb, two≡ (omega arith) refl)) λ n11.
+      if≡ (Good [] a b) (a % 16) 12 (λ h. if≡ (Good [] a b) b 0 (λ k x y hx hy. (omega arith, four≡ [] (omega arith) (omega arith) (omega arith) (omega arith))) (λ k. tt)) λ n12.
+      if≡ (Good [] a b) (a % 16) 13
+      (λ h. if≡ (Good [] a b) (b % 16) 0 (λ k. short-good (b / 16) (Jsr (ByReg (b / 16))) (λ m. (m, two≡ (omega arith) (omega arith)))) (λ k. tt)) λ n13.
+      if≡ (Good [] a b) (a % 16) 14 (λ h x y hx hy. (omega arith, four≡ [] (omega arith) (omega arith) (omega arith) (omega arith))) λ n14.
+      if≡ (Good [] a b) (a % 16) 15 (λ h. (hb, two≡ (omega arith) refl)) λ n15. tt
+
+-- ---- MOV with memory, after pre
+
+module _ (pre : List ℕ) (w : Width) (a b : ℕ) (hb : b < 256) (hd : Digit w (b % 16)) where
+  -- @ER, and @ER+ with @-ER
+  at-good : (m : ℕ → Place) → ((e : ℕ) → e < 8 → HasPlace w (m e)) → ((dir : Dir) (e r : ℕ) → codeOf (Move dir w (m e) r) ≡ pre ++ (a ∷ (dirDigit dir + e) · r ∷ []))
+      → Good pre a b (pick (ltb b 128) (Whole (Move Load w (m (b / 16)) (b % 16))) (Whole (Move Store w (m (b / 16 - 8)) (b % 16))))
+  at-good m p f =
+      if< (Good pre a b) b 128
+      (λ h. ((p (b / 16) (omega arith), hd), f Load (b / 16) (b % 16) ∙ ap (λ x. pre ++ (a ∷ x ∷ [])) (omega arith)))
+      (λ h. ((p (b / 16 - 8) (omega arith), hd), f Store (b / 16 - 8) (b % 16) ∙ ap (λ x. pre ++ (a ∷ x ∷ [])) (omega arith)))
+
+  disp-good : ((dir : Dir) (e d r : ℕ) → codeOf (Move dir w (Disp e d) r) ≡ pre ++ (a ∷ (dirDigit dir + e) · r ∷ be16 d)) → Good pre a b (memoryOf w Displaced b)
+  disp-good f =
+      if< (Good pre a b) b 128
+      (λ h x y hx hy. (
+        ((omega arith, omega arith), hd),
+        f Load (b / 16) ((x * 256 + y) % 65536) (b % 16) ∙ four≡ pre refl (omega arith) (omega arith) (omega arith),
+      ))
+      (λ h x y hx hy. (
+        ((omega arith, omega arith), hd),
+        f Store (b / 16 - 8) ((x * 256 + y) % 65536) (b % 16) ∙ four≡ pre refl (omega arith) (omega arith) (omega arith),
+      ))
+
+  abs-good : ((dir : Dir) (v r : ℕ) → codeOf (Move dir w (Abs16 v) r) ≡ pre ++ (a ∷ (dirDigit dir + 0) · r ∷ be16 v))
+      → ((dir : Dir) (v r : ℕ) → codeOf (Move dir w (Abs24 v) r) ≡ pre ++ (a ∷ (dirDigit dir + 2) · r ∷ 0 ∷ be24 v)) → Good pre a b (memoryOf w Absolute b)
+  abs-good f g =
+      if< (Good pre a b) b 128
+      (λ h. if≡ (Good pre a b) (b / 16) 0
+      (λ k x y hx hy. ((omega arith, hd), f Load ((x * 256 + y) % 65536) (b % 16) ∙ four≡ pre refl (omega arith) (omega arith) (omega arith))) λ n0.
+      if≡ (Good pre a b) (b / 16) 2
+      (λ k y z u hy hz hu. ((omega arith, hd), g Load (0 * 16777216 + y * 65536 + z * 256 + u) (b % 16) ∙ six≡ pre refl (omega arith) (omega arith) (omega arith) (omega arith))) λ n2. tt)
+      (λ h. if≡ (Good pre a b) (b / 16 - 8) 0
+      (λ k x y hx hy. ((omega arith, hd), f Store ((x * 256 + y) % 65536) (b % 16) ∙ four≡ pre refl (omega arith) (omega arith) (omega arith))) λ n0.
+      if≡ (Good pre a b) (b / 16 - 8) 2
+      (λ k y z u hy hz hu. ((omega arith, hd), g Store (0 * 16777216 + y * 65536 + z * 256 + u) (b % 16) ∙ six≡ pre refl (omega arith) (omega arith) (omega arith) (omega arith))) λ n2. tt)
+
+-- ---- the digit of an immediate
+
+-- past one more (`omega` takes at most six `≢`)
+past : {x : ℕ} (k : ℕ) → k ≤ x → (x ≡ k → ⊥) → suc k ≤ x
+past k h n = omega arith
+
+only : {x : ℕ} (k : ℕ) → k ≤ x → x < suc k → k ≡ x
+only k h l = omega arith
+
+next-op : (h : ℕ) → h < 7 → HasImm (nextOp h) Word × HasImm (nextOp h) Long × (nextDigit (nextOp h) ≡ h)
+next-op h k =
+    if≡ P h 0 (λ e. (tt, tt, sym e)) λ n0.
+    if≡ P h 1 (λ e. (tt, tt, sym e)) λ n1.
+    if≡ P h 2 (λ e. (tt, tt, sym e)) λ n2.
+    if≡ P h 3 (λ e. (tt, tt, sym e)) λ n3.
+    if≡ P h 4 (λ e. (tt, tt, sym e)) λ n4.
+    if≡ P h 5 (λ e. (tt, tt, sym e)) λ n5. (tt, tt, omega arith)
+  where
+    P : Op → Type 0
+    P op = HasImm op Word × HasImm op Long × (nextDigit op ≡ h)
+
+first-op : (h : ℕ) → 8 ≤ h → h < 16 → HasImm (firstOp h) Byte × (firstDigit (firstOp h) ≡ h)
+first-op h l k =
+    if≡ P h 8 (λ e. (tt, sym e)) λ n8.
+    if≡ P h 9 (λ e. (tt, sym e)) λ n9.
+    if≡ P h 10 (λ e. (tt, sym e)) λ n10.
+    if≡ P h 11 (λ e. (tt, sym e)) λ n11.
+    if≡ P h 12 (λ e. (tt, sym e)) λ n12.
+    if≡ P h 13 (λ e. (tt, sym e)) λ n13.
+    if≡ P h 14 (λ e. (tt, sym e)) λ n14. (tt, only 15 (past 14 (past 13 (past 12 (past 11 (past 10 (past 9 (past 8 l n8) n9) n10) n11) n12) n13) n14) k)
+  where
+    P : Op → Type 0
+    P op = HasImm op Byte × (firstDigit op ≡ h)
+
+high : (a : ℕ) → a < 256 → a / 16 < 16
+high a h = omega arith
+
+low : (a : ℕ) → a % 16 < 16
+low a = omega arith
+
+-- ---- the first word
+
+module _ (a b : ℕ) (hb : b < 256) where
+  row6-good : a / 16 ≡ 6 → Good [] a b (row6 (a % 16) b)
+  row6-good z =
+      if≡ (Good [] a b) (a % 16) 4 (λ h. (omega arith, two≡ (omega arith) (omega arith))) λ n4.
+      if≡ (Good [] a b) (a % 16) 5 (λ h. (omega arith, two≡ (omega arith) (omega arith))) λ n5.
+      if≡ (Good [] a b) (a % 16) 6 (λ h. (omega arith, two≡ (omega arith) (omega arith))) λ n6.
+      if≡ (Good [] a b) (a % 16) 8 (λ h. at-good [] Byte a b hb (omega arith) At (λ e k. k) (λ dir e r. two≡ (omega arith) refl)) λ n8.
+      if≡ (Good [] a b) (a % 16) 9 (λ h. at-good [] Word a b hb (omega arith) At (λ e k. k) (λ dir e r. two≡ (omega arith) refl)) λ n9.
+      if≡ (Good [] a b) (a % 16) 10
+      (λ h. abs-good [] Byte a b hb (omega arith) (λ dir v r. four≡ [] (omega arith) refl refl refl) (λ dir v r. six≡ [] (omega arith) refl refl refl refl)) λ n10.
+      if≡ (Good [] a b) (a % 16) 11
+      (λ h. abs-good [] Word a b hb (omega arith) (λ dir v r. four≡ [] (omega arith) refl refl refl) (λ dir v r. six≡ [] (omega arith) refl refl refl refl)) λ n11.
+      if≡ (Good [] a b) (a % 16) 12 (λ h. at-good [] Byte a b hb (omega arith) Step (λ e k. k) (λ dir e r. two≡ (omega arith) refl)) λ n12.
+      if≡ (Good [] a b) (a % 16) 13 (λ h. at-good [] Word a b hb (omega arith) Step (λ e k. k) (λ dir e r. two≡ (omega arith) refl)) λ n13.
+      if≡ (Good [] a b) (a % 16) 14 (λ h. disp-good [] Byte a b hb (omega arith) (λ dir e d r. four≡ [] (omega arith) refl refl refl)) λ n14.
+      if≡ (Good [] a b) (a % 16) 15 (λ h. disp-good [] Word a b hb (omega arith) (λ dir e d r. four≡ [] (omega arith) refl refl refl)) λ n15. tt
+
+  row7-good : a / 16 ≡ 7 → Good [] a b (row7 (a % 16) b)
+  row7-good z =
+      if≡ (Good [] a b) (a % 16) 9
+      (λ k. if< (Good [] a b) b 0x70
+      (λ h x y hx hy.
+      let o = next-op (b / 16) (omega arith) in (
+        (o .0, omega arith, omega arith),
+        four≡ [] (omega arith) (ap (λ d. d · (b % 16)) (o .2) ∙ div-add-mod' b 16) (omega arith) (omega arith),
+      ))
+      (λ h. tt)) λ n9.
+      if≡ (Good [] a b) (a % 16) 10
+      (λ k. if< (Good [] a b) b 0x70
+      (λ h. if< (Good [] a b) (b % 16) 8
+      (λ m x y u v hx hy hu hv.
+      let o = next-op (b / 16) (omega arith) in (
+        (o .1, omega arith, m),
+        (λ i. 0x7A≡a k i ∷ (ap (λ d. d · (b % 16)) (o .2) ∙ div-add-mod' b 16) i ∷ n32-0 x y u v hy hu hv i ∷ n32-1 x y u v hy hu hv i ∷ n32-2 x y u v hy hu hv i ∷ n32-3 x y u v hy hu hv i ∷ []),
+      ))
+      (λ m. tt))
+      (λ h. tt)) λ n10. tt
+    where
+      0x7A≡a : a % 16 ≡ 10 → 0x7A ≡ a
+      0x7A≡a k = omega arith
+
+      n32-0 : (x y u v : ℕ) → y < 256 → u < 256 → v < 256 → (x * 16777216 + y * 65536 + u * 256 + v) / 16777216 ≡ x
+      n32-0 x y u v hy hu hv = omega arith
+
+      n32-1 : (x y u v : ℕ) → y < 256 → u < 256 → v < 256 → (x * 16777216 + y * 65536 + u * 256 + v) / 65536 % 256 ≡ y
+      n32-1 x y u v hy hu hv = omega arith
+
+      n32-2 : (x y u v : ℕ) → y < 256 → u < 256 → v < 256 → (x * 16777216 + y * 65536 + u * 256 + v) / 256 % 256 ≡ u
+      n32-2 x y u v hy hu hv = omega arith
+
+      n32-3 : (x y u v : ℕ) → y < 256 → u < 256 → v < 256 → (x * 16777216 + y * 65536 + u * 256 + v) % 256 ≡ v
+      n32-3 x y u v hy hu hv = omega arith
+
+  pub plan-good : a < 256 → Good [] a b (planOf a b)
+  plan-good ha =
+      if≡ (Good [] a b) (a / 16) 0 (row0-good a b hb) λ n0.
+      if≡ (Good [] a b) (a / 16) 1 (row1-good a b hb) λ n1.
+      if≡ (Good [] a b) (a / 16) 2 (λ h. (((tt, hb), omega arith), two≡ (omega arith) refl)) λ n2.
+      if≡ (Good [] a b) (a / 16) 3 (λ h. (((tt, hb), omega arith), two≡ (omega arith) refl)) λ n3.
+      if≡ (Good [] a b) (a / 16) 4 (λ h. ((omega arith, hb), two≡ (omega arith) refl)) λ n4.
+      if≡ (Good [] a b) (a / 16) 5 (row5-good a b hb) λ n5.
+      if≡ (Good [] a b) (a / 16) 6 row6-good λ n6.
+      if≡ (Good [] a b) (a / 16) 7 row7-good λ n7.
+      let o = first-op (a / 16) (past 7 (past 6 (past 5 (past 4 (past 3 (past 2 (past 1 (past 0 zero-le n0) n1) n2) n3) n4) n5) n6) n7) (high a ha) in
+      ((o .0, hb, low a), two≡ (ap (λ d. d · (a % 16)) (o .1) ∙ div-add-mod' a 16) refl)
+
+-- ---- the second word
+
+module _ (c d : ℕ) (hd : d < 256) where
+  long-memory : (mode : Mode) → (d % 16 < 8 → Good (1 ∷ 0 ∷ []) c d (memoryOf Long mode d)) → Good (1 ∷ 0 ∷ []) c d (longMemory mode d)
+  long-memory mode f = if< (Good (1 ∷ 0 ∷ []) c d) (d % 16) 8 f (λ h. tt)
+
+  after00-good : Good (1 ∷ 0 ∷ []) c d (after00 c d)
+  after00-good =
+      if≡ (Good (1 ∷ 0 ∷ []) c d) c 0x69
+      (λ h. long-memory Plain (λ k. at-good (1 ∷ 0 ∷ []) Long c d hd k At (λ e m. m) (λ dir e r. ap (λ x. 1 ∷ 0 ∷ x ∷ (dirDigit dir + e) · r ∷ []) (sym h)))) λ n69.
+      if≡ (Good (1 ∷ 0 ∷ []) c d) c 0x6B
+      (λ h. long-memory Absolute (λ k. abs-good (1 ∷ 0 ∷ []) Long c d hd k (λ dir v r. four≡ (1 ∷ 0 ∷ []) (sym h) refl refl refl) (λ dir v r. six≡ (1 ∷ 0 ∷ []) (sym h) refl refl refl refl))) λ n6B.
+      if≡ (Good (1 ∷ 0 ∷ []) c d) c 0x6D
+      (λ h. long-memory Stepping (λ k. at-good (1 ∷ 0 ∷ []) Long c d hd k Step (λ e m. m) (λ dir e r. ap (λ x. 1 ∷ 0 ∷ x ∷ (dirDigit dir + e) · r ∷ []) (sym h)))) λ n6D.
+      if≡ (Good (1 ∷ 0 ∷ []) c d) c 0x6F
+      (λ h. long-memory Displaced (λ k. disp-good (1 ∷ 0 ∷ []) Long c d hd k (λ dir e v r. four≡ (1 ∷ 0 ∷ []) (sym h) refl refl refl))) λ n6F. tt
+
+  long-logic : (op : Op) → (d < 128 → d % 16 < 8 → Good (1 ∷ 0xF0 ∷ []) c d (regReg op Long d)) → Good (1 ∷ 0xF0 ∷ []) c d (longLogic op d)
+  long-logic op f = if< (Good (1 ∷ 0xF0 ∷ []) c d) d 128 (λ h. if< (Good (1 ∷ 0xF0 ∷ []) c d) (d % 16) 8 (λ k. f h k) (λ k. tt)) (λ h. tt)
+
+  afterF0-good : Good (1 ∷ 0xF0 ∷ []) c d (afterF0 c d)
+  afterF0-good =
+      if≡ (Good (1 ∷ 0xF0 ∷ []) c d) c 0x64 (λ h. long-logic Or (λ k m. (omega arith, four≡ [] refl refl (sym h) (omega arith)))) λ n64.
+      if≡ (Good (1 ∷ 0xF0 ∷ []) c d) c 0x65 (λ h. long-logic Xor (λ k m. (omega arith, four≡ [] refl refl (sym h) (omega arith)))) λ n65.
+      if≡ (Good (1 ∷ 0xF0 ∷ []) c d) c 0x66 (λ h. long-logic And (λ k m. (omega arith, four≡ [] refl refl (sym h) (omega arith)))) λ n66. tt
+
+  pub after-good : (b : ℕ) → Good (1 ∷ b ∷ []) c d (afterOf b c d)
+  after-good b =
+      if≡ (Good (1 ∷ b ∷ []) c d) b 0 (λ h. subst (λ x. Good (1 ∷ x ∷ []) c d (after00 c d)) (sym h) after00-good) λ n0.
+      if≡ (Good (1 ∷ b ∷ []) c d) b 0xF0 (λ h. subst (λ x. Good (1 ∷ x ∷ []) c d (afterF0 c d)) (sym h) afterF0-good) λ nF0. tt

@@ -1,0 +1,7 @@
+-- What callers may cite: `Laws`. The others lead to it.
+mod Lists
+mod Shape
+mod Complete
+mod Good
+mod Sound
+pub mod Laws

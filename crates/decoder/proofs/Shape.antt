@@ -1,0 +1,335 @@
+-- The shape of each code: its first byte starts a code, and the plan of its words with the bytes that follow makes its instruction.
+use Prim.Native.Nat.{ℕ, _+_, _-_, _*_, _/_, _%_, _≤_, _<_}
+use mathlib.Core.Path.{_≡_, refl, ap, ap₂, _∙_}
+use mathlib.Core.Bool.{false}
+use mathlib.Core.List.{List, [], _∷_}
+use native.Mathlib.Omega.{arith}
+use native.Mathlib.Nat.{zero-add, div-add-mod', add-sub-cancel-left}
+use lib.Dec.{ltb, eqb}
+use lib.Arith.{digits-div, digits-mod}
+use borrow.Author.Tests.{eqb-false, le-ltb, lt-ltb, ne-eqb}
+use Rattle.decoder.specs.Names.{Width, Byte, Word, Long, Op, Add, Sub, Cmp, Mov, Addx, Subx, Or, Xor, And, Reg, Imm, Way, Up, Down, By, One, Two}
+use Rattle.decoder.specs.Names.{Four, Turn, Shll, Shlr, Rotxl, Rotxr, Shal, Shar, Rotl, Rotr, Single, Not, Neg, Extu, Exts, Change, Orc, Xorc}
+use Rattle.decoder.specs.Names.{Andc, Ldc, Dir, Load, Store, Place, At, Step, Disp, Abs8, Abs16, Abs24, Reach, Near, Far, Target, ByReg, Direct}
+use Rattle.decoder.specs.Names.{Vector, Instruction, Nop, Stc, LdcReg, Ccr, Alu, IncDec, AddsSubs, Decimal, Shift, Unary, Move, Bcc, Jmp, Bsr}
+use Rattle.decoder.specs.Names.{Jsr, Rts, Rest, Imm16, Imm32, Disp16, Aa16, Aa24, Bcc16, Bsr16, Jmp24, Jsr24, Plan, Whole, Lacks, Nothing, Mode}
+use Rattle.decoder.specs.Names.{Plain, Stepping, Displaced, Absolute, Bits16, Bits24, Bits32, Cut}
+use Rattle.codes.specs.Code.{codeOf, _·_, dirDigit, digit013, digit89B, be16, be24, be32}
+use Rattle.codes.specs.Valid.{Valid, Digit}
+use Rattle.decoder.specs.MirrorWords.{pick, below, regReg, longReg, incDecs, shifts, shiftOf, unaries, moveOf, memoryOf, nextOp, plans, planOf}
+use Rattle.decoder.specs.MirrorWords.{longMemory, longLogic, afterOf}
+use Rattle.decoder.specs.MirrorDecode.{tailOf, fillOf, begunOf, startsOf, prefixedOf}
+
+-- ---- digits and tests
+
+digits : {A : Type 0} (f : ℕ → ℕ → A) (h : ℕ) {d : ℕ} → d < 16 → f ((h * 16 + d) / 16) ((h * 16 + d) % 16) ≡ f h d
+digits f h k = ap₂ f (digits-div h k) (digits-mod h k)
+
+short : {p : Plan} {d : ℕ} → d < 8 → below d 8 p ≡ p
+short {d = d} h = rw (lt-ltb d 8 h)
+
+-- ---- what a plan makes of the bytes that follow
+
+pub data Ends (p : Plan) (i : Instruction) : List ℕ → Type 0 where
+  all : p ≡ Whole i → Ends p i []
+  two : (q : Rest) {x y : ℕ} → p ≡ Lacks q → tailOf q ≡ Bits16 → fillOf q (x * 256 + y) ≡ i → Ends p i (x ∷ y ∷ [])
+  zero-three : (q : Rest) {y z w : ℕ} → p ≡ Lacks q → tailOf q ≡ Bits24 → fillOf q (0 * 16777216 + y * 65536 + z * 256 + w) ≡ i → Ends p i (0 ∷ y ∷ z ∷ w ∷ [])
+  four : (q : Rest) {x y z w : ℕ} → p ≡ Lacks q → tailOf q ≡ Bits32 → fillOf q (x * 16777216 + y * 65536 + z * 256 + w) ≡ i → Ends p i (x ∷ y ∷ z ∷ w ∷ [])
+
+pub data Shape (i : Instruction) : List ℕ → Type 0 where
+  plain : {a b : ℕ} {t : List ℕ} → (a ≡ 1 → ⊥) → startsOf a ≡ Cut → Ends (planOf a b) i t → Shape i (a ∷ b ∷ t)
+  long : {b c d : ℕ} {t : List ℕ} → prefixedOf b [] ≡ Cut → begunOf (afterOf b c 0) ≡ Cut → Ends (afterOf b c d) i t → Shape i (1 ∷ b ∷ c ∷ d ∷ t)
+
+not1 : (a : ℕ) → eqb a 1 ≡ false → a ≡ 1 → ⊥
+not1 a e = eqb-false a 1 e
+
+-- a code of one word whose first byte is a numeral
+one : {a b : ℕ} {i : Instruction} → eqb a 1 ≡ false → startsOf a ≡ Cut → planOf a b ≡ Whole i → Shape i (a ∷ b ∷ [])
+one {a} n s e = plain (not1 a n) s (all e)
+
+-- register to register
+regs : {op : Op} {w : Width} {a : ℕ} → eqb a 1 ≡ false → startsOf a ≡ Cut → ((b : ℕ) → planOf a b ≡ regReg op w b)
+    → (s d : ℕ) → d < 16 → Shape (Alu op w (Reg s) d) (a ∷ s · d ∷ [])
+regs {op} {w} n st f s d h = one n st (f (s · d) ∙ digits (λ x y. Whole (Alu op w (Reg x) y)) s h)
+
+-- (8+e)e
+longs : {op : Op} {a : ℕ} → eqb a 1 ≡ false → startsOf a ≡ Cut → ((b : ℕ) → 16 ≤ b → planOf a b ≡ longReg op b)
+    → (s d : ℕ) → s < 8 → d < 8 → Shape (Alu op Long (Reg s) d) (a ∷ (8 + s) · d ∷ [])
+longs {op} n st f s d hs hd =
+    one n st
+    (f ((8 + s) · d) (omega arith)
+    ∙ rw (le-ltb ((8 + s) · d) 128 (omega arith))
+    (digits (λ x y. below y 8 (Whole (Alu op Long (Reg (x - 8)) y))) (8 + s) (omega arith)
+    ∙ short hd
+    ∙ ap (λ x. Whole (Alu op Long (Reg x) d)) (add-sub-cancel-left 8 s)))
+
+-- a first byte that is a digit and a register
+first : (h b : ℕ) {d : ℕ} → d < 16 → planOf (h · d) b ≡ plans h d b
+first h b k = digits (λ x y. plans x y b) h k
+
+by-first : (h : ℕ) {d b : ℕ} {i : Instruction} → d < 16 → (h · d ≡ 1 → ⊥) → (h · d ≡ 84 → ⊥) → begunOf (plans h d 0) ≡ Cut
+    → plans h d b ≡ Whole i → Shape i (h · d ∷ b ∷ [])
+by-first h {d} {b} k n1 n54 s e = plain n1 (rw (ne-eqb (h · d) 1 n1, ne-eqb (h · d) 84 n54) (ap begunOf (first h 0 k) ∙ s)) (all (first h b k ∙ e))
+
+-- ---- the second byte of a MOV with memory, and the numbers that follow
+
+at-memory : (w : Width) (mode : Mode) (dir : Dir) (e r : ℕ) → e < 8 → r < 16 → memoryOf w mode ((dirDigit dir + e) · r) ≡ moveOf w mode dir e r
+at-memory w mode Load e r he hr =
+    rw (lt-ltb ((0 + e) · r) 128 (omega arith))
+    (digits (λ x y. moveOf w mode Load x y) (0 + e) hr ∙ ap (λ x. moveOf w mode Load x r) (zero-add e))
+at-memory w mode Store e r he hr =
+    rw (le-ltb ((8 + e) · r) 128 (omega arith))
+    (digits (λ x y. moveOf w mode Store (x - 8) y) (8 + e) hr ∙ ap (λ x. moveOf w mode Store x r) (add-sub-cancel-left 8 e))
+
+at-long : (mode : Mode) (dir : Dir) (e r : ℕ) → e < 8 → r < 8 → longMemory mode ((dirDigit dir + e) · r) ≡ moveOf Long mode dir e r
+at-long mode dir e r he hr =
+    ap (λ x. pick (ltb x 8) (memoryOf Long mode ((dirDigit dir + e) · r)) Nothing) (digits-mod (dirDigit dir + e) (omega arith))
+    ∙ rw (lt-ltb r 8 hr) (at-memory Long mode dir e r he (omega arith))
+
+at-logic : (op : Op) (s d : ℕ) → s < 8 → d < 8 → longLogic op (s · d) ≡ Whole (Alu op Long (Reg s) d)
+at-logic op s d hs hd =
+    rw (lt-ltb (s · d) 128 (omega arith))
+    (digits (λ x y. below y 8 (Whole (Alu op Long (Reg x) y))) s (omega arith) ∙ short hd)
+
+low16 : (v : ℕ) → v < 0x10000 → (v / 256 * 256 + v % 256) % 65536 ≡ v
+low16 v h = omega arith
+
+whole16 : (v : ℕ) → v / 256 * 256 + v % 256 ≡ v
+whole16 v = div-add-mod' v 256
+
+whole24 : (v : ℕ) → 0 * 16777216 + v / 65536 * 65536 + v / 256 % 256 * 256 + v % 256 ≡ v
+whole24 v = omega arith
+
+whole32 : (v : ℕ) → v / 16777216 * 16777216 + v / 65536 % 256 * 65536 + v / 256 % 256 * 256 + v % 256 ≡ v
+whole32 v = omega arith
+
+-- aa:24 in a word and a byte
+apart24 : (v : ℕ) → v < 0x1000000 → v / 65536 * 65536 + (v / 256 % 256 * 256 + v % 256) % 65536 ≡ v
+apart24 v h = omega arith
+
+-- ---- the shape of each code
+
+reg-shape : (op : Op) (w : Width) (s d : ℕ) → Valid (Alu op w (Reg s) d) → Shape (Alu op w (Reg s) d) (codeOf (Alu op w (Reg s) d))
+reg-shape Add Byte s d v = regs refl refl (λ b. refl) s d (v .2)
+reg-shape Sub Byte s d v = regs refl refl (λ b. refl) s d (v .2)
+reg-shape Cmp Byte s d v = regs refl refl (λ b. refl) s d (v .2)
+reg-shape Mov Byte s d v = regs refl refl (λ b. refl) s d (v .2)
+reg-shape Addx Byte s d v = regs refl refl (λ b. refl) s d (v .2)
+reg-shape Subx Byte s d v = regs refl refl (λ b. refl) s d (v .2)
+reg-shape Or Byte s d v = regs refl refl (λ b. refl) s d (v .2)
+reg-shape Xor Byte s d v = regs refl refl (λ b. refl) s d (v .2)
+reg-shape And Byte s d v = regs refl refl (λ b. refl) s d (v .2)
+reg-shape Add Word s d v = regs refl refl (λ b. refl) s d (v .2)
+reg-shape Sub Word s d v = regs refl refl (λ b. refl) s d (v .2)
+reg-shape Cmp Word s d v = regs refl refl (λ b. refl) s d (v .2)
+reg-shape Mov Word s d v = regs refl refl (λ b. refl) s d (v .2)
+reg-shape Addx Word s d v = absurd (v .0)
+reg-shape Subx Word s d v = absurd (v .0)
+reg-shape Or Word s d v = regs refl refl (λ b. refl) s d (v .2)
+reg-shape Xor Word s d v = regs refl refl (λ b. refl) s d (v .2)
+reg-shape And Word s d v = regs refl refl (λ b. refl) s d (v .2)
+reg-shape Add Long s d v = longs refl refl (λ b h. rw (le-ltb b 16 h)) s d (v .1) (v .2)
+reg-shape Sub Long s d v = longs refl refl (λ b h. rw (le-ltb b 16 h)) s d (v .1) (v .2)
+reg-shape Cmp Long s d v = longs refl refl (λ b h. rw (le-ltb b 16 h)) s d (v .1) (v .2)
+reg-shape Mov Long s d v = longs refl refl (λ b h. rw (le-ltb b 16 h)) s d (v .1) (v .2)
+reg-shape Addx Long s d v = absurd (v .0)
+reg-shape Subx Long s d v = absurd (v .0)
+reg-shape Or Long s d v = long refl refl (all (at-logic Or s d (v .1) (v .2)))
+reg-shape Xor Long s d v = long refl refl (all (at-logic Xor s d (v .1) (v .2)))
+reg-shape And Long s d v = long refl refl (all (at-logic And s d (v .1) (v .2)))
+
+-- an immediate byte: the first digit is 8 to F
+by-imm8 : {op : Op} (h : ℕ) {d v : ℕ} → 8 ≤ h → d < 16 → plans h d v ≡ Whole (Alu op Byte (Imm v) d) → begunOf (plans h d 0) ≡ Cut
+    → Shape (Alu op Byte (Imm v) d) (h · d ∷ v ∷ [])
+by-imm8 h k hd e s = by-first h hd (omega arith) (omega arith) s e
+
+-- 79: the second byte's upper digit is 0 to 6
+by-imm16 : {op : Op} (h : ℕ) {d v : ℕ} → h < 7 → d < 16 → nextOp h ≡ op → Shape (Alu op Word (Imm v) d) (0x79 ∷ h · d ∷ be16 v)
+by-imm16 {op} h {d} {v} k hd e =
+    plain {b = h · d} (not1 0x79 refl) refl
+    (two (Imm16 op d)
+    (rw (lt-ltb (h · d) 0x70 (omega arith)) (digits (λ x y. Lacks (Imm16 (nextOp x) y)) h hd ∙ ap (λ x. Lacks (Imm16 x d)) e))
+    refl
+    (ap (λ x. Alu op Word (Imm x) d) (whole16 v)))
+
+by-imm32 : {op : Op} (h : ℕ) {d v : ℕ} → h < 7 → d < 8 → nextOp h ≡ op → Shape (Alu op Long (Imm v) d) (0x7A ∷ h · d ∷ be32 v)
+by-imm32 {op} h {d} {v} k hd e =
+    plain {b = h · d} (not1 0x7A refl) refl
+    (four (Imm32 op d)
+    (rw (lt-ltb (h · d) 0x70 (omega arith))
+    (digits (λ x y. below y 8 (Lacks (Imm32 (nextOp x) y))) h (omega arith) ∙ short hd ∙ ap (λ x. Lacks (Imm32 x d)) e))
+    refl
+    (ap (λ x. Alu op Long (Imm x) d) (whole32 v)))
+
+imm-shape : (op : Op) (w : Width) (v d : ℕ) → Valid (Alu op w (Imm v) d) → Shape (Alu op w (Imm v) d) (codeOf (Alu op w (Imm v) d))
+imm-shape Add Byte v d k = by-imm8 8 (omega arith) (k .2) refl refl
+imm-shape Addx Byte v d k = by-imm8 9 (omega arith) (k .2) refl refl
+imm-shape Cmp Byte v d k = by-imm8 10 (omega arith) (k .2) refl refl
+imm-shape Subx Byte v d k = by-imm8 11 (omega arith) (k .2) refl refl
+imm-shape Or Byte v d k = by-imm8 12 (omega arith) (k .2) refl refl
+imm-shape Xor Byte v d k = by-imm8 13 (omega arith) (k .2) refl refl
+imm-shape And Byte v d k = by-imm8 14 (omega arith) (k .2) refl refl
+imm-shape Mov Byte v d k = by-imm8 15 (omega arith) (k .2) refl refl
+imm-shape Sub Byte v d k = absurd (k .0)
+imm-shape Mov Word v d k = by-imm16 0 (omega arith) (k .2) refl
+imm-shape Add Word v d k = by-imm16 1 (omega arith) (k .2) refl
+imm-shape Cmp Word v d k = by-imm16 2 (omega arith) (k .2) refl
+imm-shape Sub Word v d k = by-imm16 3 (omega arith) (k .2) refl
+imm-shape Or Word v d k = by-imm16 4 (omega arith) (k .2) refl
+imm-shape Xor Word v d k = by-imm16 5 (omega arith) (k .2) refl
+imm-shape And Word v d k = by-imm16 6 (omega arith) (k .2) refl
+imm-shape Addx Word v d k = absurd (k .0)
+imm-shape Subx Word v d k = absurd (k .0)
+imm-shape Mov Long v d k = by-imm32 0 (omega arith) (k .2) refl
+imm-shape Add Long v d k = by-imm32 1 (omega arith) (k .2) refl
+imm-shape Cmp Long v d k = by-imm32 2 (omega arith) (k .2) refl
+imm-shape Sub Long v d k = by-imm32 3 (omega arith) (k .2) refl
+imm-shape Or Long v d k = by-imm32 4 (omega arith) (k .2) refl
+imm-shape Xor Long v d k = by-imm32 5 (omega arith) (k .2) refl
+imm-shape And Long v d k = by-imm32 6 (omega arith) (k .2) refl
+imm-shape Addx Long v d k = absurd (k .0)
+imm-shape Subx Long v d k = absurd (k .0)
+
+-- a second byte of a digit and a register
+by-digits : (f : ℕ → ℕ → Plan) (h : ℕ) {a d : ℕ} {i : Instruction} → eqb a 1 ≡ false → startsOf a ≡ Cut → ((b : ℕ) → planOf a b ≡ f (b / 16) (b % 16))
+    → d < 16 → f h d ≡ Whole i → Shape i (a ∷ h · d ∷ [])
+by-digits f h {d = d} n st g hd e = one n st (g (h · d) ∙ digits f h hd ∙ e)
+
+inc-dec-shape : (way : Way) (w : Width) (by : By) (r : ℕ) → Valid (IncDec way w by r) → Shape (IncDec way w by r) (codeOf (IncDec way w by r))
+inc-dec-shape Up Byte One r v = one refl refl (rw (lt-ltb (0 · r) 16 (omega arith)) (ap (λ x. Whole (IncDec Up Byte One x)) (zero-add r)))
+inc-dec-shape Down Byte One r v = one refl refl (rw (lt-ltb (0 · r) 16 (omega arith)) (ap (λ x. Whole (IncDec Down Byte One x)) (zero-add r)))
+inc-dec-shape Up Byte Two r v = absurd (v .0)
+inc-dec-shape Down Byte Two r v = absurd (v .0)
+inc-dec-shape Up Byte Four r v = absurd (v .0)
+inc-dec-shape Down Byte Four r v = absurd (v .0)
+inc-dec-shape Up Word One r v = by-digits (incDecs Up) 5 refl refl (λ b. refl) (v .1) refl
+inc-dec-shape Down Word One r v = by-digits (incDecs Down) 5 refl refl (λ b. refl) (v .1) refl
+inc-dec-shape Up Word Two r v = by-digits (incDecs Up) 13 refl refl (λ b. refl) (v .1) refl
+inc-dec-shape Down Word Two r v = by-digits (incDecs Down) 13 refl refl (λ b. refl) (v .1) refl
+inc-dec-shape Up Word Four r v = absurd (v .0)
+inc-dec-shape Down Word Four r v = absurd (v .0)
+inc-dec-shape Up Long One r v = by-digits (incDecs Up) 7 refl refl (λ b. refl) (omega arith) (short (v .1))
+inc-dec-shape Down Long One r v = by-digits (incDecs Down) 7 refl refl (λ b. refl) (omega arith) (short (v .1))
+inc-dec-shape Up Long Two r v = by-digits (incDecs Up) 15 refl refl (λ b. refl) (omega arith) (short (v .1))
+inc-dec-shape Down Long Two r v = by-digits (incDecs Down) 15 refl refl (λ b. refl) (omega arith) (short (v .1))
+inc-dec-shape Up Long Four r v = absurd (v .0)
+inc-dec-shape Down Long Four r v = absurd (v .0)
+
+adds-shape : (way : Way) (by : By) (e : ℕ) → e < 8 → Shape (AddsSubs way by e) (codeOf (AddsSubs way by e))
+adds-shape Up One e v = by-digits (incDecs Up) 0 refl refl (λ b. refl) (omega arith) (short v)
+adds-shape Down One e v = by-digits (incDecs Down) 0 refl refl (λ b. refl) (omega arith) (short v)
+adds-shape Up Two e v = by-digits (incDecs Up) 8 refl refl (λ b. refl) (omega arith) (short v)
+adds-shape Down Two e v = by-digits (incDecs Down) 8 refl refl (λ b. refl) (omega arith) (short v)
+adds-shape Up Four e v = by-digits (incDecs Up) 9 refl refl (λ b. refl) (omega arith) (short v)
+adds-shape Down Four e v = by-digits (incDecs Down) 9 refl refl (λ b. refl) (omega arith) (short v)
+
+decimal-shape : (way : Way) (r : ℕ) → r < 16 → Shape (Decimal way r) (codeOf (Decimal way r))
+decimal-shape Up r v = one refl refl (rw (lt-ltb (0 · r) 16 (omega arith)) (ap (λ x. Whole (Decimal Up x)) (zero-add r)))
+decimal-shape Down r v = one refl refl (rw (lt-ltb (0 · r) 16 (omega arith)) (ap (λ x. Whole (Decimal Down x)) (zero-add r)))
+
+-- a pair of shifts in one row
+turns : (t u : Turn) {a : ℕ} → eqb a 1 ≡ false → startsOf a ≡ Cut → ((b : ℕ) → planOf a b ≡ shiftOf t u b) → (w : Width) (r : ℕ) → Digit w r
+    → Shape (Shift t w r) (a ∷ digit013 w · r ∷ []) × Shape (Shift u w r) (a ∷ digit89B w · r ∷ [])
+turns t u n st g Byte r v = (by-digits (shifts t u) 0 n st g v refl, by-digits (shifts t u) 8 n st g v refl)
+turns t u n st g Word r v = (by-digits (shifts t u) 1 n st g v refl, by-digits (shifts t u) 9 n st g v refl)
+turns t u n st g Long r v = (by-digits (shifts t u) 3 n st g (omega arith) (short v), by-digits (shifts t u) 11 n st g (omega arith) (short v))
+
+shift-shape : (t : Turn) (w : Width) (r : ℕ) → Digit w r → Shape (Shift t w r) (codeOf (Shift t w r))
+shift-shape Shll w r v = turns Shll Shal refl refl (λ b. refl) w r v .0
+shift-shape Shal w r v = turns Shll Shal refl refl (λ b. refl) w r v .1
+shift-shape Shlr w r v = turns Shlr Shar refl refl (λ b. refl) w r v .0
+shift-shape Shar w r v = turns Shlr Shar refl refl (λ b. refl) w r v .1
+shift-shape Rotxl w r v = turns Rotxl Rotl refl refl (λ b. refl) w r v .0
+shift-shape Rotl w r v = turns Rotxl Rotl refl refl (λ b. refl) w r v .1
+shift-shape Rotxr w r v = turns Rotxr Rotr refl refl (λ b. refl) w r v .0
+shift-shape Rotr w r v = turns Rotxr Rotr refl refl (λ b. refl) w r v .1
+
+unary-shape : (u : Single) (w : Width) (r : ℕ) → Valid (Unary u w r) → Shape (Unary u w r) (codeOf (Unary u w r))
+unary-shape Not Byte r v = by-digits unaries 0 refl refl (λ b. refl) (v .1) refl
+unary-shape Not Word r v = by-digits unaries 1 refl refl (λ b. refl) (v .1) refl
+unary-shape Not Long r v = by-digits unaries 3 refl refl (λ b. refl) (omega arith) (short (v .1))
+unary-shape Neg Byte r v = by-digits unaries 8 refl refl (λ b. refl) (v .1) refl
+unary-shape Neg Word r v = by-digits unaries 9 refl refl (λ b. refl) (v .1) refl
+unary-shape Neg Long r v = by-digits unaries 11 refl refl (λ b. refl) (omega arith) (short (v .1))
+unary-shape Extu Byte r v = absurd (v .0)
+unary-shape Extu Word r v = by-digits unaries 5 refl refl (λ b. refl) (v .1) refl
+unary-shape Extu Long r v = by-digits unaries 7 refl refl (λ b. refl) (omega arith) (short (v .1))
+unary-shape Exts Byte r v = absurd (v .0)
+unary-shape Exts Word r v = by-digits unaries 13 refl refl (λ b. refl) (v .1) refl
+unary-shape Exts Long r v = by-digits unaries 15 refl refl (λ b. refl) (omega arith) (short (v .1))
+
+-- what follows the second byte of a MOV with memory
+ends-disp : {p : Plan} (dir : Dir) (w : Width) (e d r : ℕ) → d < 0x10000 → p ≡ moveOf w Displaced dir e r → Ends p (Move dir w (Disp e d) r) (be16 d)
+ends-disp dir w e d r h k = two (Disp16 dir w e r) k refl (ap (λ x. Move dir w (Disp e x) r) (low16 d h))
+
+ends-16 : {p : Plan} (dir : Dir) (w : Width) (a r : ℕ) → a < 0x10000 → p ≡ moveOf w Absolute dir 0 r → Ends p (Move dir w (Abs16 a) r) (be16 a)
+ends-16 dir w a r h k = two (Aa16 dir w r) k refl (ap (λ x. Move dir w (Abs16 x) r) (low16 a h))
+
+ends-24 : {p : Plan} (dir : Dir) (w : Width) (a r : ℕ) → p ≡ moveOf w Absolute dir 2 r → Ends p (Move dir w (Abs24 a) r) (0 ∷ be24 a)
+ends-24 dir w a r k = zero-three (Aa24 dir w r) k refl (ap (λ x. Move dir w (Abs24 x) r) (whole24 a))
+
+move-shape : (dir : Dir) (w : Width) (p : Place) (r : ℕ) → Valid (Move dir w p r) → Shape (Move dir w p r) (codeOf (Move dir w p r))
+move-shape dir Byte (At e) r v = one refl refl (at-memory Byte Plain dir e r (v .0) (v .1))
+move-shape Load Byte (Abs8 a) r v = by-first 2 (v .1) (omega arith) (omega arith) refl refl
+move-shape Store Byte (Abs8 a) r v = by-first 3 (v .1) (omega arith) (omega arith) refl refl
+move-shape dir Byte (Step e) r v = one refl refl (at-memory Byte Stepping dir e r (v .0) (v .1))
+move-shape dir Byte (Disp e d) r v = plain {b = (dirDigit dir + e) · r} (not1 0x6E refl) refl (ends-disp dir Byte e d r (v .0 .1) (at-memory Byte Displaced dir e r (v .0 .0) (v .1)))
+move-shape dir Byte (Abs16 a) r v = plain {b = (dirDigit dir + 0) · r} (not1 0x6A refl) refl (ends-16 dir Byte a r (v .0) (at-memory Byte Absolute dir 0 r (omega arith) (v .1)))
+move-shape dir Byte (Abs24 a) r v = plain {b = (dirDigit dir + 2) · r} (not1 0x6A refl) refl (ends-24 dir Byte a r (at-memory Byte Absolute dir 2 r (omega arith) (v .1)))
+move-shape dir Word (At e) r v = one refl refl (at-memory Word Plain dir e r (v .0) (v .1))
+move-shape dir Word (Abs8 a) r v = absurd (v .0 .0)
+move-shape dir Word (Step e) r v = one refl refl (at-memory Word Stepping dir e r (v .0) (v .1))
+move-shape dir Word (Disp e d) r v = plain {b = (dirDigit dir + e) · r} (not1 0x6F refl) refl (ends-disp dir Word e d r (v .0 .1) (at-memory Word Displaced dir e r (v .0 .0) (v .1)))
+move-shape dir Word (Abs16 a) r v = plain {b = (dirDigit dir + 0) · r} (not1 0x6B refl) refl (ends-16 dir Word a r (v .0) (at-memory Word Absolute dir 0 r (omega arith) (v .1)))
+move-shape dir Word (Abs24 a) r v = plain {b = (dirDigit dir + 2) · r} (not1 0x6B refl) refl (ends-24 dir Word a r (at-memory Word Absolute dir 2 r (omega arith) (v .1)))
+move-shape dir Long (At e) r v = long {d = (dirDigit dir + e) · r} refl refl (all (at-long Plain dir e r (v .0) (v .1)))
+move-shape dir Long (Abs8 a) r v = absurd (v .0 .0)
+move-shape dir Long (Step e) r v = long {d = (dirDigit dir + e) · r} refl refl (all (at-long Stepping dir e r (v .0) (v .1)))
+move-shape dir Long (Disp e d) r v = long {d = (dirDigit dir + e) · r} refl refl (ends-disp dir Long e d r (v .0 .1) (at-long Displaced dir e r (v .0 .0) (v .1)))
+move-shape dir Long (Abs16 a) r v = long {d = (dirDigit dir + 0) · r} refl refl (ends-16 dir Long a r (v .0) (at-long Absolute dir 0 r (omega arith) (v .1)))
+move-shape dir Long (Abs24 a) r v = long {d = (dirDigit dir + 2) · r} refl refl (ends-24 dir Long a r (at-long Absolute dir 2 r (omega arith) (v .1)))
+
+bcc-shape : (c : ℕ) (k : Reach) → Valid (Bcc c k) → Shape (Bcc c k) (codeOf (Bcc c k))
+bcc-shape c (Near d) v = by-first 4 (v .0) (omega arith) (omega arith) refl refl
+bcc-shape c (Far d) v =
+    plain {b = c · 0} (not1 0x58 refl) refl
+    (two (Bcc16 c) (digits (λ x y. pick (eqb y 0) (Lacks (Bcc16 x)) Nothing) c (omega arith)) refl (ap (λ x. Bcc c (Far x)) (low16 d (v .1))))
+
+jmp-shape : (t : Target) → Valid (Jmp t) → Shape (Jmp t) (codeOf (Jmp t))
+jmp-shape (ByReg e) v = one refl refl (digits (λ x y. pick (eqb y 0) (below x 8 (Whole (Jmp (ByReg x)))) Nothing) e (omega arith) ∙ short v)
+jmp-shape (Direct a) v = plain {b = a / 65536} (not1 0x5A refl) refl (two (Jmp24 (a / 65536)) refl refl (ap (λ x. Jmp (Direct x)) (apart24 a v)))
+jmp-shape (Vector a) v = one refl refl refl
+
+jsr-shape : (t : Target) → Valid (Jsr t) → Shape (Jsr t) (codeOf (Jsr t))
+jsr-shape (ByReg e) v = one refl refl (digits (λ x y. pick (eqb y 0) (below x 8 (Whole (Jsr (ByReg x)))) Nothing) e (omega arith) ∙ short v)
+jsr-shape (Direct a) v = plain {b = a / 65536} (not1 0x5E refl) refl (two (Jsr24 (a / 65536)) refl refl (ap (λ x. Jsr (Direct x)) (apart24 a v)))
+jsr-shape (Vector a) v = one refl refl refl
+
+bsr-shape : (k : Reach) → Valid (Bsr k) → Shape (Bsr k) (codeOf (Bsr k))
+bsr-shape (Near d) v = one refl refl refl
+bsr-shape (Far d) v = plain {b = 0} (not1 0x5C refl) refl (two Bsr16 refl refl (ap (λ x. Bsr (Far x)) (low16 d v)))
+
+change-shape : (change : Change) (v : ℕ) → Shape (Ccr change v) (codeOf (Ccr change v))
+change-shape Orc v = one refl refl refl
+change-shape Xorc v = one refl refl refl
+change-shape Andc v = one refl refl refl
+change-shape Ldc v = one refl refl refl
+
+pub shape : (i : Instruction) → Valid i → Shape i (codeOf i)
+shape Nop v = one refl refl refl
+shape (Stc r) v = one refl refl (rw (lt-ltb (0 · r) 16 (omega arith)) (ap (λ x. Whole (Stc x)) (zero-add r)))
+shape (LdcReg r) v = one refl refl (rw (lt-ltb (0 · r) 16 (omega arith)) (ap (λ x. Whole (LdcReg x)) (zero-add r)))
+shape (Ccr f n) v = change-shape f n
+shape (Alu op w (Reg s) d) v = reg-shape op w s d v
+shape (Alu op w (Imm n) d) v = imm-shape op w n d v
+shape (IncDec way w by r) v = inc-dec-shape way w by r v
+shape (AddsSubs way by e) v = adds-shape way by e v
+shape (Decimal way r) v = decimal-shape way r v
+shape (Shift t w r) v = shift-shape t w r v
+shape (Unary u w r) v = unary-shape u w r v
+shape (Move dir w p r) v = move-shape dir w p r v
+shape (Bcc c k) v = bcc-shape c k v
+shape (Jmp t) v = jmp-shape t v
+shape (Bsr k) v = bsr-shape k v
+shape (Jsr t) v = jsr-shape t v
+shape Rts v = one refl refl refl

@@ -1,0 +1,11 @@
+use borrow.Author.Needs.{needs}
+use borrow.Author.Tests.{ne-eqb}
+use Rattle.decoder.proofs.words.second_word.Statement.{statement}
+use Rattle.decoder.proofs.words.second_word.Tie as tie
+
+pub second-word-spec : {M : Type 1} → statement M
+second-word-spec =
+    tie.close
+    (tie.spec (λ c κs. search needs) (λ c κs. search needs) (λ c. simp (c .before .match .keys1, c .after-00 .ensures))
+    (λ c. simp (c .before .match .keys2, c .after-f0 .ensures))
+    (λ c. simp (ne-eqb _ _ (c .match .rest .0 .1), ne-eqb _ _ (c .match .rest .1))))

@@ -1,0 +1,87 @@
+-- What bytes begin with, case by case as the code of `src/whole.rt` does. As in `MirrorWords`, nothing here is to be believed.
+use Prim.Native.Nat.{ℕ, _+_, _*_, _%_}
+use mathlib.Core.List.{List}
+use lib.Dec.{ltb, eqb}
+use lib.ListN.{length, getD, drop}
+use Rattle.decoder.specs.Names.{Word, Long, Imm, Disp, Abs16, Abs24, Far, Direct, Instruction, Alu, Move, Bcc, Jmp, Bsr, Jsr, Decoded, Code, NoCode, UnknownCode, CutShort}
+use Rattle.decoder.specs.Names.{Rest, Imm16, Imm32, Disp16, Aa16, Aa24, Bcc16, Bsr16, Jmp24, Jsr24, Plan, Whole, Lacks, Nothing, Tail, Bits16, Bits24, Bits32, Found, Is, Cut, Unlisted}
+use Rattle.decoder.specs.MirrorWords.{pick, planOf, afterOf}
+
+abbrev pub tailOf : Rest → Tail
+tailOf (Imm16 op r) = Bits16
+tailOf (Imm32 op r) = Bits32
+tailOf (Disp16 dir w e r) = Bits16
+tailOf (Aa16 dir w r) = Bits16
+tailOf (Aa24 dir w r) = Bits24
+tailOf (Bcc16 c) = Bits16
+tailOf Bsr16 = Bits16
+tailOf (Jmp24 b) = Bits16
+tailOf (Jsr24 b) = Bits16
+
+abbrev pub fillOf : Rest → ℕ → Instruction
+fillOf (Imm16 op r) v = Alu op Word (Imm v) r
+fillOf (Imm32 op r) v = Alu op Long (Imm v) r
+fillOf (Disp16 dir w e r) v = Move dir w (Disp e (v % 65536)) r
+fillOf (Aa16 dir w r) v = Move dir w (Abs16 (v % 65536)) r
+fillOf (Aa24 dir w r) v = Move dir w (Abs24 v) r
+fillOf (Bcc16 c) v = Bcc c (Far (v % 65536))
+fillOf Bsr16 v = Bsr (Far (v % 65536))
+fillOf (Jmp24 b) v = Jmp (Direct (b * 65536 + v % 65536))
+fillOf (Jsr24 b) v = Jsr (Direct (b * 65536 + v % 65536))
+
+abbrev pub num16 : List ℕ → ℕ
+num16 s = getD s 0 0 * 256 + getD s 1 0
+
+abbrev pub num32 : List ℕ → ℕ
+num32 s = getD s 0 0 * 16777216 + getD s 1 0 * 65536 + getD s 2 0 * 256 + getD s 3 0
+
+abbrev pub with16 : Rest → List ℕ → ℕ → Found
+with16 q rest n = pick (ltb (length rest) 2) Cut (Is (fillOf q (num16 rest)) (n + 2))
+
+abbrev pub with32 : Rest → List ℕ → ℕ → Found
+with32 q rest n = pick (ltb (length rest) 4) Cut (Is (fillOf q (num32 rest)) (n + 4))
+
+abbrev pub with24 : Rest → List ℕ → ℕ → Found
+with24 q rest n = pick (eqb (length rest) 0) Cut (pick (eqb (getD rest 0 0) 0) (with32 q rest n) Unlisted)
+
+abbrev pub byTail : Tail → Rest → List ℕ → ℕ → Found
+byTail Bits16 q rest n = with16 q rest n
+byTail Bits24 q rest n = with24 q rest n
+byTail Bits32 q rest n = with32 q rest n
+
+abbrev pub finishOf : Plan → List ℕ → ℕ → Found
+finishOf (Whole i) rest n = Is i n
+finishOf (Lacks q) rest n = byTail (tailOf q) q rest n
+finishOf Nothing rest n = Unlisted
+
+abbrev pub begunOf : Plan → Found
+begunOf (Whole i) = Cut
+begunOf (Lacks q) = Cut
+begunOf Nothing = Unlisted
+
+abbrev pub startsOf : ℕ → Found
+startsOf a = pick (eqb a 0x01) Cut (pick (eqb a 0x54) Cut (begunOf (planOf a 0)))
+
+abbrev pub prefixOf : ℕ → Found
+prefixOf b = pick (eqb b 0x00) Cut (pick (eqb b 0xF0) Cut Unlisted)
+
+abbrev pub prefixedOf : ℕ → List ℕ → Found
+prefixedOf b rest =
+    pick (eqb (length rest) 0) (prefixOf b)
+    (pick (eqb (length rest) 1) (begunOf (afterOf b (getD rest 0 0) 0))
+    (finishOf (afterOf b (getD rest 0 0) (getD rest 1 0)) (drop 2 rest) 4))
+
+abbrev pub foundOf : List ℕ → Found
+foundOf s =
+    pick (eqb (length s) 0) Cut
+    (pick (eqb (length s) 1) (startsOf (getD s 0 0))
+    (pick (eqb (getD s 0 0) 1) (prefixedOf (getD s 1 0) (drop 2 s))
+    (finishOf (planOf (getD s 0 0) (getD s 1 0)) (drop 2 s) 2)))
+
+abbrev pub placedOf : ℕ → Found → Decoded
+placedOf place (Is i n) = Code i n
+placedOf place Cut = NoCode (CutShort place)
+placedOf place Unlisted = NoCode (UnknownCode place)
+
+abbrev pub decodeOf : ℕ → List ℕ → Decoded
+decodeOf place s = placedOf place (foundOf s)

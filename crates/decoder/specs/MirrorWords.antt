@@ -1,0 +1,261 @@
+-- What the words of a code say, case by case as the code of `src/words.rt` does. Nothing here is to be believed: `proofs/` shows that it is the
+-- code list, read backwards.
+use Prim.Native.Nat.{ℕ, _-_, _/_, _%_}
+use mathlib.Core.Bool.{Bool, true, false}
+use lib.Dec.{ltb, eqb}
+use Rattle.decoder.specs.Names.{Width, Byte, Word, Long, Op, Add, Sub, Cmp, Mov, Addx, Subx, Or, Xor, And, Reg, Imm, Way, Up, Down, By, One, Two, Four}
+use Rattle.decoder.specs.Names.{Turn, Shll, Shlr, Rotxl, Rotxr, Shal, Shar, Rotl, Rotr, Single, Not, Neg, Extu, Exts, Change, Orc, Xorc, Andc, Ldc}
+use Rattle.decoder.specs.Names.{Dir, Load, Store, Place, At, Step, Disp, Abs8, Abs16, Abs24, Reach, Near, Far, Target, ByReg, Direct, Vector}
+use Rattle.decoder.specs.Names.{Instruction, Nop, Stc, LdcReg, Ccr, Alu, IncDec, AddsSubs, Decimal, Shift, Unary, Move, Bcc, Jmp, Bsr, Jsr, Rts}
+use Rattle.decoder.specs.Names.{Imm16, Imm32, Disp16, Aa16, Aa24, Bcc16, Bsr16, Jmp24, Jsr24, Plan, Whole, Lacks, Nothing, Mode, Plain, Stepping, Displaced, Absolute}
+
+abbrev pub pick : {A : Type 0} → Bool → A → A → A
+pick true a b = a
+pick false a b = b
+
+abbrev pub exactly : ℕ → ℕ → Plan → Plan
+exactly x k p = pick (eqb x k) p Nothing
+
+abbrev pub below : ℕ → ℕ → Plan → Plan
+below x k p = pick (ltb x k) p Nothing
+
+abbrev pub held : Width → ℕ → Plan → Plan
+held Byte d p = p
+held Word d p = p
+held Long d p = below d 8 p
+
+abbrev pub nopOf : ℕ → Plan
+nopOf b = exactly b 0 (Whole Nop)
+
+abbrev pub stcOf : ℕ → Plan
+stcOf b = below b 16 (Whole (Stc b))
+
+abbrev pub ldcOf : ℕ → Plan
+ldcOf b = below b 16 (Whole (LdcReg b))
+
+abbrev pub ccrOf : Change → ℕ → Plan
+ccrOf change b = Whole (Ccr change b)
+
+abbrev pub regReg : Op → Width → ℕ → Plan
+regReg op w b = Whole (Alu op w (Reg (b / 16)) (b % 16))
+
+abbrev pub longReg : Op → ℕ → Plan
+longReg op b = pick (ltb b 128) Nothing (below (b % 16) 8 (Whole (Alu op Long (Reg (b / 16 - 8)) (b % 16))))
+
+abbrev pub incOrLong : Way → Op → ℕ → Plan
+incOrLong way op b = pick (ltb b 16) (Whole (IncDec way Byte One b)) (longReg op b)
+
+abbrev pub decimalOrLong : Way → Op → ℕ → Plan
+decimalOrLong way op b = pick (ltb b 16) (Whole (Decimal way b)) (longReg op b)
+
+abbrev pub counted : Way → Width → By → ℕ → Plan
+counted way w by d = held w d (Whole (IncDec way w by d))
+
+abbrev pub stepped : Way → By → ℕ → Plan
+stepped way by d = below d 8 (Whole (AddsSubs way by d))
+
+abbrev pub incDecs : Way → ℕ → ℕ → Plan
+incDecs way h d =
+    pick (eqb h 0x0) (stepped way One d)
+    (pick (eqb h 0x8) (stepped way Two d)
+    (pick (eqb h 0x9) (stepped way Four d)
+    (pick (eqb h 0x5) (counted way Word One d)
+    (pick (eqb h 0xD) (counted way Word Two d)
+    (pick (eqb h 0x7) (counted way Long One d)
+    (pick (eqb h 0xF) (counted way Long Two d) Nothing))))))
+
+abbrev pub incDecOf : Way → ℕ → Plan
+incDecOf way b = incDecs way (b / 16) (b % 16)
+
+abbrev pub turned : Turn → Width → ℕ → Plan
+turned t w d = held w d (Whole (Shift t w d))
+
+abbrev pub shifts : Turn → Turn → ℕ → ℕ → Plan
+shifts t u h d =
+    pick (eqb h 0x0) (turned t Byte d)
+    (pick (eqb h 0x1) (turned t Word d)
+    (pick (eqb h 0x3) (turned t Long d)
+    (pick (eqb h 0x8) (turned u Byte d)
+    (pick (eqb h 0x9) (turned u Word d)
+    (pick (eqb h 0xB) (turned u Long d) Nothing)))))
+
+abbrev pub shiftOf : Turn → Turn → ℕ → Plan
+shiftOf t u b = shifts t u (b / 16) (b % 16)
+
+abbrev pub singleOf : Single → Width → ℕ → Plan
+singleOf s w d = held w d (Whole (Unary s w d))
+
+abbrev pub unaries : ℕ → ℕ → Plan
+unaries h d =
+    pick (eqb h 0x0) (singleOf Not Byte d)
+    (pick (eqb h 0x1) (singleOf Not Word d)
+    (pick (eqb h 0x3) (singleOf Not Long d)
+    (pick (eqb h 0x8) (singleOf Neg Byte d)
+    (pick (eqb h 0x9) (singleOf Neg Word d)
+    (pick (eqb h 0xB) (singleOf Neg Long d)
+    (pick (eqb h 0x5) (singleOf Extu Word d)
+    (pick (eqb h 0x7) (singleOf Extu Long d)
+    (pick (eqb h 0xD) (singleOf Exts Word d)
+    (pick (eqb h 0xF) (singleOf Exts Long d) Nothing)))))))))
+
+abbrev pub unaryOf : ℕ → Plan
+unaryOf b = unaries (b / 16) (b % 16)
+
+abbrev pub row0 : ℕ → ℕ → Plan
+row0 lo b =
+    pick (eqb lo 0x0) (nopOf b)
+    (pick (eqb lo 0x2) (stcOf b)
+    (pick (eqb lo 0x3) (ldcOf b)
+    (pick (eqb lo 0x4) (ccrOf Orc b)
+    (pick (eqb lo 0x5) (ccrOf Xorc b)
+    (pick (eqb lo 0x6) (ccrOf Andc b)
+    (pick (eqb lo 0x7) (ccrOf Ldc b)
+    (pick (eqb lo 0x8) (regReg Add Byte b)
+    (pick (eqb lo 0x9) (regReg Add Word b)
+    (pick (eqb lo 0xA) (incOrLong Up Add b)
+    (pick (eqb lo 0xB) (incDecOf Up b)
+    (pick (eqb lo 0xC) (regReg Mov Byte b)
+    (pick (eqb lo 0xD) (regReg Mov Word b)
+    (pick (eqb lo 0xE) (regReg Addx Byte b)
+    (pick (eqb lo 0xF) (decimalOrLong Up Mov b) Nothing))))))))))))))
+
+abbrev pub row1 : ℕ → ℕ → Plan
+row1 lo b =
+    pick (eqb lo 0x0) (shiftOf Shll Shal b)
+    (pick (eqb lo 0x1) (shiftOf Shlr Shar b)
+    (pick (eqb lo 0x2) (shiftOf Rotxl Rotl b)
+    (pick (eqb lo 0x3) (shiftOf Rotxr Rotr b)
+    (pick (eqb lo 0x4) (regReg Or Byte b)
+    (pick (eqb lo 0x5) (regReg Xor Byte b)
+    (pick (eqb lo 0x6) (regReg And Byte b)
+    (pick (eqb lo 0x7) (unaryOf b)
+    (pick (eqb lo 0x8) (regReg Sub Byte b)
+    (pick (eqb lo 0x9) (regReg Sub Word b)
+    (pick (eqb lo 0xA) (incOrLong Down Sub b)
+    (pick (eqb lo 0xB) (incDecOf Down b)
+    (pick (eqb lo 0xC) (regReg Cmp Byte b)
+    (pick (eqb lo 0xD) (regReg Cmp Word b)
+    (pick (eqb lo 0xE) (regReg Subx Byte b)
+    (pick (eqb lo 0xF) (decimalOrLong Down Cmp b) Nothing)))))))))))))))
+
+abbrev pub rtsOf : ℕ → Plan
+rtsOf b = exactly b 0x70 (Whole Rts)
+
+abbrev pub bcc16 : ℕ → Plan
+bcc16 b = exactly (b % 16) 0 (Lacks (Bcc16 (b / 16)))
+
+abbrev pub bsr16 : ℕ → Plan
+bsr16 b = exactly b 0 (Lacks Bsr16)
+
+abbrev pub jmpReg : ℕ → Plan
+jmpReg b = exactly (b % 16) 0 (below (b / 16) 8 (Whole (Jmp (ByReg (b / 16)))))
+
+abbrev pub jsrReg : ℕ → Plan
+jsrReg b = exactly (b % 16) 0 (below (b / 16) 8 (Whole (Jsr (ByReg (b / 16)))))
+
+abbrev pub row5 : ℕ → ℕ → Plan
+row5 lo b =
+    pick (eqb lo 0x4) (rtsOf b)
+    (pick (eqb lo 0x5) (Whole (Bsr (Near b)))
+    (pick (eqb lo 0x8) (bcc16 b)
+    (pick (eqb lo 0x9) (jmpReg b)
+    (pick (eqb lo 0xA) (Lacks (Jmp24 b))
+    (pick (eqb lo 0xB) (Whole (Jmp (Vector b)))
+    (pick (eqb lo 0xC) (bsr16 b)
+    (pick (eqb lo 0xD) (jsrReg b)
+    (pick (eqb lo 0xE) (Lacks (Jsr24 b))
+    (pick (eqb lo 0xF) (Whole (Jsr (Vector b))) Nothing)))))))))
+
+abbrev pub absoluteOf : Width → Dir → ℕ → ℕ → Plan
+absoluteOf w dir e r =
+    pick (eqb e 0) (Lacks (Aa16 dir w r))
+    (pick (eqb e 2) (Lacks (Aa24 dir w r)) Nothing)
+
+abbrev pub moveOf : Width → Mode → Dir → ℕ → ℕ → Plan
+moveOf w Plain dir e r = Whole (Move dir w (At e) r)
+moveOf w Stepping dir e r = Whole (Move dir w (Step e) r)
+moveOf w Displaced dir e r = Lacks (Disp16 dir w e r)
+moveOf w Absolute dir e r = absoluteOf w dir e r
+
+abbrev pub memoryOf : Width → Mode → ℕ → Plan
+memoryOf w mode b = pick (ltb b 128) (moveOf w mode Load (b / 16) (b % 16)) (moveOf w mode Store (b / 16 - 8) (b % 16))
+
+abbrev pub row6 : ℕ → ℕ → Plan
+row6 lo b =
+    pick (eqb lo 0x4) (regReg Or Word b)
+    (pick (eqb lo 0x5) (regReg Xor Word b)
+    (pick (eqb lo 0x6) (regReg And Word b)
+    (pick (eqb lo 0x8) (memoryOf Byte Plain b)
+    (pick (eqb lo 0x9) (memoryOf Word Plain b)
+    (pick (eqb lo 0xA) (memoryOf Byte Absolute b)
+    (pick (eqb lo 0xB) (memoryOf Word Absolute b)
+    (pick (eqb lo 0xC) (memoryOf Byte Stepping b)
+    (pick (eqb lo 0xD) (memoryOf Word Stepping b)
+    (pick (eqb lo 0xE) (memoryOf Byte Displaced b)
+    (pick (eqb lo 0xF) (memoryOf Word Displaced b) Nothing))))))))))
+
+abbrev pub firstOp : ℕ → Op
+firstOp d =
+    pick (eqb d 0x8) Add
+    (pick (eqb d 0x9) Addx
+    (pick (eqb d 0xA) Cmp
+    (pick (eqb d 0xB) Subx
+    (pick (eqb d 0xC) Or
+    (pick (eqb d 0xD) Xor
+    (pick (eqb d 0xE) And Mov))))))
+
+abbrev pub nextOp : ℕ → Op
+nextOp d =
+    pick (eqb d 0) Mov
+    (pick (eqb d 1) Add
+    (pick (eqb d 2) Cmp
+    (pick (eqb d 3) Sub
+    (pick (eqb d 4) Or
+    (pick (eqb d 5) Xor And)))))
+
+abbrev pub imm16 : ℕ → Plan
+imm16 b = below b 0x70 (Lacks (Imm16 (nextOp (b / 16)) (b % 16)))
+
+abbrev pub imm32 : ℕ → Plan
+imm32 b = below b 0x70 (below (b % 16) 8 (Lacks (Imm32 (nextOp (b / 16)) (b % 16))))
+
+abbrev pub row7 : ℕ → ℕ → Plan
+row7 lo b =
+    pick (eqb lo 0x9) (imm16 b)
+    (pick (eqb lo 0xA) (imm32 b) Nothing)
+
+abbrev pub plans : ℕ → ℕ → ℕ → Plan
+plans hi lo b =
+    pick (eqb hi 0) (row0 lo b)
+    (pick (eqb hi 1) (row1 lo b)
+    (pick (eqb hi 2) (Whole (Move Load Byte (Abs8 b) lo))
+    (pick (eqb hi 3) (Whole (Move Store Byte (Abs8 b) lo))
+    (pick (eqb hi 4) (Whole (Bcc lo (Near b)))
+    (pick (eqb hi 5) (row5 lo b)
+    (pick (eqb hi 6) (row6 lo b)
+    (pick (eqb hi 7) (row7 lo b) (Whole (Alu (firstOp hi) Byte (Imm b) lo)))))))))
+
+abbrev pub planOf : ℕ → ℕ → Plan
+planOf a b = plans (a / 16) (a % 16) b
+
+abbrev pub longMemory : Mode → ℕ → Plan
+longMemory mode d = below (d % 16) 8 (memoryOf Long mode d)
+
+abbrev pub longLogic : Op → ℕ → Plan
+longLogic op d = below d 128 (below (d % 16) 8 (regReg op Long d))
+
+abbrev pub after00 : ℕ → ℕ → Plan
+after00 c d =
+    pick (eqb c 0x69) (longMemory Plain d)
+    (pick (eqb c 0x6B) (longMemory Absolute d)
+    (pick (eqb c 0x6D) (longMemory Stepping d)
+    (pick (eqb c 0x6F) (longMemory Displaced d) Nothing)))
+
+abbrev pub afterF0 : ℕ → ℕ → Plan
+afterF0 c d =
+    pick (eqb c 0x64) (longLogic Or d)
+    (pick (eqb c 0x65) (longLogic Xor d)
+    (pick (eqb c 0x66) (longLogic And d) Nothing))
+
+abbrev pub afterOf : ℕ → ℕ → ℕ → Plan
+afterOf b c d = pick (eqb b 0x00) (after00 c d) (pick (eqb b 0xF0) (afterF0 c d) Nothing)

@@ -1,0 +1,191 @@
+// What bytes begin with: a word's plan, and the bytes that it lacks.
+ghost use mathlib.Core.Path.{_≡_};
+ghost use Prim.Native.Nat.{_<_};
+ghost use Rattle.decoder.specs.MirrorDecode.{tailOf, fillOf, with16, with24, with32, byTail, finishOf, begunOf, startsOf, prefixOf, prefixedOf, foundOf};
+use crate::words::Plan;
+use crate::words::Rest;
+use arith::Width;
+use codes::Instruction;
+use codes::Place;
+use codes::Reach;
+use codes::Source;
+use codes::Target;
+
+// What a code lacks after its words: 16 or 32 bits, or a byte 00 and 24 bits.
+pub enum Tail {
+    Bits16,
+    Bits24,
+    Bits32,
+}
+
+// An instruction and its length; or the bytes are a proper beginning of a code; or neither.
+pub enum Found {
+    Is(Instruction, usize),
+    Cut,
+    Unlisted,
+}
+
+fn lacking(q: Rest) -> Tail
+    ensures { λ r. ⌜ r ≡ tailOf q ⌝ }
+{
+    match q {
+        Rest::Imm16(_, _) => Tail::Bits16,
+        Rest::Imm32(_, _) => Tail::Bits32,
+        Rest::Disp16(_, _, _, _) => Tail::Bits16,
+        Rest::Aa16(_, _, _) => Tail::Bits16,
+        Rest::Aa24(_, _, _) => Tail::Bits24,
+        Rest::Bcc16(_) => Tail::Bits16,
+        Rest::Bsr16 => Tail::Bits16,
+        Rest::Jmp24(_) => Tail::Bits16,
+        Rest::Jsr24(_) => Tail::Bits16,
+    }
+}
+
+// The instruction with the number that it lacked.
+fn filled(q: Rest, v: u32) -> Instruction
+    ensures { λ r. ⌜ r ≡ fillOf q v ⌝ }
+{
+    match q {
+        Rest::Imm16(op, r) => Instruction::Alu(op, Width::Word, Source::Imm(v), r),
+        Rest::Imm32(op, r) => Instruction::Alu(op, Width::Long, Source::Imm(v), r),
+        Rest::Disp16(dir, w, e, r) => Instruction::Move(
+            dir,
+            w,
+            Place::Disp(e, (v % 65536) as u16),
+            r,
+        ),
+        Rest::Aa16(dir, w, r) => Instruction::Move(dir, w, Place::Abs16((v % 65536) as u16), r),
+        Rest::Aa24(dir, w, r) => Instruction::Move(dir, w, Place::Abs24(v), r),
+        Rest::Bcc16(c) => Instruction::Bcc(c, Reach::Far((v % 65536) as u16)),
+        Rest::Bsr16 => Instruction::Bsr(Reach::Far((v % 65536) as u16)),
+        Rest::Jmp24(b) => Instruction::Jmp(Target::Direct((b as u32) * 65536 + v % 65536)),
+        Rest::Jsr24(b) => Instruction::Jsr(Target::Direct((b as u32) * 65536 + v % 65536)),
+    }
+}
+
+fn wide(x: u8) -> u32
+    ensures { λ r. ⌜ (r ≡ x) × (r < 256) ⌝ }
+{
+    x as u32
+}
+
+// n bytes are passed.
+fn with_16(q: Rest, rest: &[u8], n: u8) -> Found
+    ensures { λ r. ⌜ r ≡ with16 q (now (rest .entry)) n ⌝ }
+{
+    if rest.len() < 2 {
+        return Found::Cut;
+    }
+    Found::Is(
+        filled(q, wide(rest[0]) * 256 + wide(rest[1])),
+        n as usize + 2,
+    )
+}
+
+fn with_32(q: Rest, rest: &[u8], n: u8) -> Found
+    ensures { λ r. ⌜ r ≡ with32 q (now (rest .entry)) n ⌝ }
+{
+    if rest.len() < 4 {
+        return Found::Cut;
+    }
+    let v = wide(rest[0]) * 16777216 + wide(rest[1]) * 65536 + wide(rest[2]) * 256 + wide(rest[3]);
+    Found::Is(filled(q, v), n as usize + 4)
+}
+
+fn with_24(q: Rest, rest: &[u8], n: u8) -> Found
+    ensures { λ r. ⌜ r ≡ with24 q (now (rest .entry)) n ⌝ }
+{
+    if rest.len() == 0 {
+        return Found::Cut;
+    }
+    if rest[0] == 0 {
+        with_32(q, rest, n)
+    } else {
+        Found::Unlisted
+    }
+}
+
+fn more(k: Tail, q: Rest, rest: &[u8], n: u8) -> Found
+    ensures { λ r. ⌜ r ≡ byTail k q (now (rest .entry)) n ⌝ }
+{
+    match k {
+        Tail::Bits16 => with_16(q, rest, n),
+        Tail::Bits24 => with_24(q, rest, n),
+        Tail::Bits32 => with_32(q, rest, n),
+    }
+}
+
+fn finish(p: Plan, rest: &[u8], n: u8) -> Found
+    ensures { λ r. ⌜ r ≡ finishOf p (now (rest .entry)) n ⌝ }
+{
+    match p {
+        Plan::Whole(i) => Found::Is(i, n as usize),
+        Plan::Lacks(q) => more(lacking(q), q, rest, n),
+        Plan::Nothing => Found::Unlisted,
+    }
+}
+
+// A word that some code has, where its second byte is 0.
+fn begun(p: Plan) -> Found
+    ensures { λ r. ⌜ r ≡ begunOf p ⌝ }
+{
+    match p {
+        Plan::Whole(_) => Found::Cut,
+        Plan::Lacks(_) => Found::Cut,
+        Plan::Nothing => Found::Unlisted,
+    }
+}
+
+// A single byte: one that begins a code begins one with the second byte 0, but for 01 and 54.
+fn starts(a: u8) -> Found
+    ensures { λ r. ⌜ r ≡ startsOf a ⌝ }
+{
+    match a {
+        0x01 => Found::Cut,
+        0x54 => Found::Cut,
+        _ => begun(crate::words::first_word(a, 0)),
+    }
+}
+
+// 01 and a byte, and nothing more.
+fn prefix(b: u8) -> Found
+    ensures { λ r. ⌜ r ≡ prefixOf b ⌝ }
+{
+    match b {
+        0x00 => Found::Cut,
+        0xF0 => Found::Cut,
+        _ => Found::Unlisted,
+    }
+}
+
+// What follows 01 and the byte b.
+fn prefixed(b: u8, rest: &[u8]) -> Found
+    ensures { λ r. ⌜ r ≡ prefixedOf b (now (rest .entry)) ⌝ }
+{
+    if rest.len() == 0 {
+        return prefix(b);
+    }
+    if rest.len() == 1 {
+        return begun(crate::words::second_word(b, rest[0], 0));
+    }
+    finish(
+        crate::words::second_word(b, rest[0], rest[1]),
+        &rest[2..],
+        4,
+    )
+}
+
+pub fn begins(s: &[u8]) -> Found
+    ensures { λ r. ⌜ r ≡ foundOf (now (s .entry)) ⌝ }
+{
+    if s.len() == 0 {
+        return Found::Cut;
+    }
+    if s.len() == 1 {
+        return starts(s[0]);
+    }
+    if s[0] == 1 {
+        return prefixed(s[1], &s[2..]);
+    }
+    finish(crate::words::first_word(s[0], s[1]), &s[2..], 2)
+}
