@@ -4,7 +4,7 @@ use Prim.Native.Nat.{ℕ, _+_, _%_, _^_, _≤_, _<_}
 use mathlib.Core.Path.{_≡_, refl, sym, _∙_}
 use mathlib.Core.Bool.{Bool, true, false}
 use mathlib.Core.List.{List}
-use lib.Dec.{leb, eqb}
+use lib.Dec.{leb}
 use lib.ListN.{length}
 use borrow.Author.Tests.{leb-true, leb-false, le-leb, lt-leb, eqb-true, eq-eqb}
 use native.Mathlib.Omega.{arith}
@@ -14,7 +14,7 @@ use Rattle.refusal.specs.Refusals.{numberOf}
 use Rattle.refusal.specs.declared.Refusal.{Refusal}
 use Rattle.refusal.specs.declared.Refusal.the-variants.{ReadOutside, WriteOutside}
 use Rattle.memory.proofs.Cases.{both-true}
-use Rattle.memory.proofs.Reading.{Five, five, limit, value-of, refusal-of}
+use Rattle.memory.proofs.Reading.{Any, Five, five, limit, value-of, refusal-of}
 use Rattle.memory.proofs.Storing.{roomOf, storedOf, as-written, answer, either-way, length-stored, bytes-stored, six, six-refused, stored-reads, stored-stays}
 use Rattle.memory.specs.Access.{inside, byteAt, readOf, written, writeOf}
 use Rattle.memory.specs.Board.{even, goodBoard, Good}
@@ -25,11 +25,11 @@ use Rattle.memory.specs.declared.Put.the-variants.{Stored, NotStored}
 
 module _ (w : Width) (b : Board) (rom ram : List ℕ) (a : ℕ) where
   pub read-below : Bytes rom → Bytes ram → (x : ℕ) → readOf w b rom ram a ≡ Value x → x < 2 ^ bitsOf w
-  read-below r s x e = value-of (λ y. y < 2 ^ bitsOf w) (λ f. Unit {0}) (readOf w b rom ram a) x e (limit b rom ram w a r s)
+  read-below r s x e = value-of (λ y. y < 2 ^ bitsOf w) Any (readOf w b rom ram a) x e (limit b rom ram w a r s)
 
   -- a refused read is 5, at a place below 2^24
   pub read-refused : (f : Refusal) → readOf w b rom ram a ≡ NotRead f → (p : ℕ) × (f ≡ ReadOutside p) × (p < 2 ^ 24)
-  read-refused f e = refusal-of (λ x. Unit {0}) (Five b rom ram) (readOf w b rom ram a) f e (five b rom ram w a)
+  read-refused f e = refusal-of Any Five (readOf w b rom ram a) f e (five b rom ram w a)
 
   pub read-number : (f : Refusal) → readOf w b rom ram a ≡ NotRead f → numberOf f ≡ 5
   read-number f e = let (p, h, i) = read-refused f e in rw h

@@ -1,4 +1,5 @@
 // The board, and data accesses to its memories: read-only memory from 0, working memory from its base.
+// `specs/Board.antt` and `specs/Access.antt` have document 01's words for both, one definition a function.
 use arith::Width;
 use refusal::Refusal;
 ghost use mathlib.Core.Path.{_≡_};
@@ -7,10 +8,10 @@ ghost use lib.ListN.{length};
 ghost use Rattle.memory.specs.Board.{goodBoard};
 ghost use Rattle.memory.specs.Access.{address, evenAddress, secondAddress, inside, byteAt, wordAt};
 ghost use Rattle.memory.specs.Access.{readByte, readWord, readLong, readOf};
-ghost use Rattle.memory.specs.Mirror.{Number, Found};
 ghost use Rattle.memory.specs.Access.{putByte, putWord, writeByte, writeWord, writeLong, writeOf, wrote};
+ghost use Rattle.memory.specs.Mirror.{Number, Found};
 
-// Where working memory begins. The lengths are those of the slices lent with it.
+// Where working memory begins. The lengths are those of the slices lent beside it.
 pub struct Board {
     pub base: u32,
 }
@@ -38,18 +39,21 @@ pub fn good_board(b: Board, rom: &[u8], ram: &[u8]) -> bool
         & (base + ram.len() <= 16777216)
 }
 
+// The place of a byte.
 fn address(a: u32) -> u32
     ensures { λ r. ⌜ r ≡ address a ⌝ }
 {
     a % 16777216
 }
 
+// The place of a word.
 fn even_address(a: u32) -> u32
     ensures { λ r. ⌜ r ≡ evenAddress a ⌝ }
 {
     address(a) / 2 * 2
 }
 
+// The place of the second word of a longword.
 fn second_address(a: u32) -> u32
     ensures { λ r. ⌜ r ≡ secondAddress a ⌝ }
 {
@@ -66,12 +70,14 @@ fn holds(start: u32, m: &[u8], p: u32, n: u32) -> bool
     (from <= at) & (at + count <= from + m.len())
 }
 
+// A byte as a wider number, with its bound, so that sums of it fit.
 fn wide(x: u8) -> u32
     ensures { λ r. ⌜ (r ≡ x) × (r < 256) ⌝ }
 {
     x as u32
 }
 
+// Here and below: whoever takes a byte or a word by its index has looked at the place first, so no test is left at run time.
 fn byte_at(m: &[u8], i: usize) -> u32
     requires { ⌜ i < length (now m) ⌝ }
     ensures { λ r. ⌜ r ≡ byteAt (now (m .entry)) i ⌝ }
@@ -172,7 +178,7 @@ fn write_word(b: Board, ram: &mut [u8], p: u32, x: u32) -> Put
     Put::NotStored(Refusal::WriteOutside(p))
 }
 
-// Both words are looked at before either is stored.
+// Both words are looked at before either is stored, so that a refused write leaves all as it was.
 fn write_long(b: Board, ram: &mut [u8], p: u32, q: u32, x: u32) -> Put
     ensures { λ r. ⌜ wrote r (now (ram .exit)) ≡ writeLong b (now (ram .entry)) p q x ⌝ }
 {
