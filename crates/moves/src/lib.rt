@@ -1,7 +1,10 @@
 // MOV with memory, and the stack. PC is none of theirs.
 use arith::Width;
-use codes::{Place, Way};
-use memory::{Board, Got, Put};
+use codes::Place;
+use codes::Way;
+use memory::Board;
+use memory::Got;
+use memory::Put;
 use operate::Effect;
 use registers::Registers;
 ghost use mathlib.Core.Path.{_≡_};
@@ -37,8 +40,7 @@ fn displaced(e: u8, d: u16, r: Registers) -> u32
         registers::part(Width::Long, r, e),
         extended(d),
         false,
-    )
-    .value
+    ).value
 }
 
 fn address(p: Place, r: Registers) -> u32

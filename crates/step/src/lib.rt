@@ -1,10 +1,18 @@
 // One step of the processor.
 use arith::Width;
-use codes::{Decoded, Dir, Goes, Instruction, Place, Target};
-use memory::{Board, Got};
+use codes::Decoded;
+use codes::Dir;
+use codes::Goes;
+use codes::Instruction;
+use codes::Place;
+use codes::Target;
+use memory::Board;
+use memory::Got;
 use operate::Effect;
-use refusal::{Outcome, Refusal};
-use registers::{Condition, Registers};
+use refusal::Outcome;
+use refusal::Refusal;
+use registers::Condition;
+use registers::Registers;
 ghost use mathlib.Core.Path.{_≡_};
 ghost use mathlib.Core.Bool.{cond};
 ghost use lib.ListN.{length};
@@ -73,17 +81,21 @@ fn follow(g: Goes, next: u32, r: Registers, b: Board, rom: &[u8], ram: &[u8]) ->
         Goes::Jumps(t) => aim(t, r, b, rom, ram),
         Goes::CallsNear(reach) => Got::Value(flow::target(next, reach)),
         Goes::Calls(t) => aim(t, r, b, rom, ram),
-        Goes::Returns => memory::read(
-            Width::Long,
-            b,
-            rom,
-            ram,
-            registers::part(Width::Long, r, 7),
-        ),
+        Goes::Returns => memory::read(Width::Long, b, rom, ram, registers::part(Width::Long, r, 7)),
     }
 }
 
-fn transfer(dir: Dir, w: Width, p: Place, d: u8, next: u32, r: Registers, b: Board, rom: &[u8], ram: &mut [u8]) -> Effect
+fn transfer(
+    dir: Dir,
+    w: Width,
+    p: Place,
+    d: u8,
+    next: u32,
+    r: Registers,
+    b: Board,
+    rom: &[u8],
+    ram: &mut [u8],
+) -> Effect
     ensures { λ e. ⌜ stepped e (now (ram .exit)) ≡ transferOf next r b (now (rom .entry)) (now (ram .entry)) dir w p d ⌝ }
 {
     match dir {
@@ -143,7 +155,15 @@ fn finish(o: Outcome, r: Registers, q: Registers, p: u32, n: u32) -> StepAnswer
 }
 
 // The instruction, once it is known where PC goes.
-fn complete(p: u32, i: Instruction, next: u32, r: Registers, b: Board, rom: &[u8], ram: &mut [u8]) -> StepAnswer
+fn complete(
+    p: u32,
+    i: Instruction,
+    next: u32,
+    r: Registers,
+    b: Board,
+    rom: &[u8],
+    ram: &mut [u8],
+) -> StepAnswer
     ensures { λ q. ⌜ after q (now (ram .exit)) ≡ carryOf (Value p) i next r b (now (rom .entry)) (now (ram .entry)) ⌝ }
 {
     let e = effect(i, next, r, b, rom, ram);
@@ -152,7 +172,15 @@ fn complete(p: u32, i: Instruction, next: u32, r: Registers, b: Board, rom: &[u8
     finish(o, r, q, p, codes::states(i))
 }
 
-fn carry(g: Got, i: Instruction, next: u32, r: Registers, b: Board, rom: &[u8], ram: &mut [u8]) -> StepAnswer
+fn carry(
+    g: Got,
+    i: Instruction,
+    next: u32,
+    r: Registers,
+    b: Board,
+    rom: &[u8],
+    ram: &mut [u8],
+) -> StepAnswer
     ensures { λ q. ⌜ after q (now (ram .exit)) ≡ carryOf g i next r b (now (rom .entry)) (now (ram .entry)) ⌝ }
 {
     match g {
