@@ -192,6 +192,7 @@ struct matcher {
 };
 static struct matcher matchers[FORMS];
 static uint8_t by_first_byte[256][FORMS + 1];           /* forms that may begin with a byte; ends with FORMS */
+static int first_of_kind[17], next_of_kind[FORMS];      /* chains of the forms of a kind; end with FORMS */
 
 static int is_hex(char c) { return (c >= '0' && c <= '9') || (c >= 'A' && c <= 'F'); }
 static unsigned hex_digit(char c) { return c <= '9' ? (unsigned)(c - '0') : (unsigned)(c - 'A' + 10); }
@@ -267,6 +268,12 @@ void decoder_start(void)
                 by_first_byte[b][k++] = (uint8_t)i;
         by_first_byte[b][k] = FORMS;
     }
+    for (int k = 0; k <= 16; k++)
+        first_of_kind[k] = FORMS;
+    for (int i = FORMS - 1; i >= 0; i--) {
+        next_of_kind[i] = first_of_kind[forms[i].kind];
+        first_of_kind[forms[i].kind] = i;
+    }
 }
 
 int decoder_length(int form) { return matchers[form].length; }
@@ -336,10 +343,8 @@ static int fits(int form, char to, uint32_t v) { return (uint64_t)v >> bits_of(f
 
 int form_of(const uint32_t f[H8_FIELDS])
 {
-    for (int i = 0; i < FORMS; i++)
-        if (f[H8_KIND] == forms[i].kind && f[H8_WHICH] == forms[i].which && f[H8_WIDTH] == forms[i].width
-            && f[H8_FORM] == forms[i].form && fits(i, 'o', f[H8_OTHER]) && fits(i, 'v', f[H8_VALUE])
-            && fits(i, 'r', f[H8_REG]))
-            return i;
+    for (int i = first_of_kind[f[H8_KIND] < 16 ? f[H8_KIND] : 16]; i < FORMS; i = next_of_kind[i])
+        if (f[H8_WHICH] == forms[i].which && f[H8_WIDTH] == forms[i].width && f[H8_FORM] == forms[i].form)
+            return fits(i, 'o', f[H8_OTHER]) && fits(i, 'v', f[H8_VALUE]) && fits(i, 'r', f[H8_REG]) ? i : -1;
     return -1;
 }
