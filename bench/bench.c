@@ -1,5 +1,5 @@
 /* The host's test bench: the library behind host/h8.h against an independent decoder, model and path enumeration.
-   bench SAMPLES   SAMPLES is the folder with the sample ROMs. */
+   bench SAMPLES [PART...]   SAMPLES is the folder with the sample ROMs; with no PART all are run. */
 #include "bench.h"
 #include <signal.h>
 #include <stdarg.h>
@@ -13,6 +13,23 @@ static char test_name[200];
 static uint64_t test_cases;
 static int test_failed, passed, failed;
 
+/* Random numbers: splitmix64. Each test has its own, by its name, whatever ran before it. */
+static uint64_t seed;
+static void reseed(const char *name)
+{
+    seed = 0x4838333030480001;
+    while (*name)
+        seed = (seed ^ (uint8_t)*name++) * 0x100000001B3;
+}
+uint64_t any(void)
+{
+    uint64_t z = seed += 0x9E3779B97F4A7C15;
+    z = (z ^ z >> 30) * 0xBF58476D1CE4E5B9;
+    z = (z ^ z >> 27) * 0x94D049BB133111EB;
+    return z ^ z >> 31;
+}
+uint32_t below(uint32_t n) { return (uint32_t)((any() >> 32) * n >> 32); }
+
 void begin(const char *name, ...)
 {
     va_list args;
@@ -21,6 +38,7 @@ void begin(const char *name, ...)
     va_end(args);
     test_cases = 0;
     test_failed = 0;
+    reseed(test_name);
 }
 
 void fail(const char *format, ...)
@@ -47,6 +65,16 @@ void say(const char *format, ...)
     va_end(args);
     printf("\n");
     fflush(stdout);
+}
+
+void note(const char *format, ...)
+{
+    va_list args;
+    printf("       ");
+    va_start(args, format);
+    vprintf(format, args);
+    va_end(args);
+    printf("\n");
 }
 
 int failing(void) { return test_failed != 0; }
@@ -126,17 +154,6 @@ static void touched(int signal_number)
     ssize_t done = write(1, text, (size_t)n);
     _exit(done < 0 ? 2 : 1);
 }
-
-/* Random numbers: splitmix64. */
-static uint64_t seed = 0x4838333030480001;
-uint64_t any(void)
-{
-    uint64_t z = seed += 0x9E3779B97F4A7C15;
-    z = (z ^ z >> 30) * 0xBF58476D1CE4E5B9;
-    z = (z ^ z >> 27) * 0x94D049BB133111EB;
-    return z ^ z >> 31;
-}
-uint32_t below(uint32_t n) { return (uint32_t)((any() >> 32) * n >> 32); }
 
 uint32_t edge32(void)
 {
@@ -224,12 +241,30 @@ struct outcome compare_step(const struct state *s)
     return o;
 }
 
+static const char *samples;
+static void runs(void) { test_runs(samples); }
+
+static const struct { const char *part; void (*run)(void); } parts[] = {
+    {"reference", test_reference}, {"marked", test_marked}, {"codes", test_codes}, {"encode", test_encode},
+    {"steps", test_steps}, {"bytes", test_bytes}, {"limits", test_limits}, {"runs", runs}, {"figures", test_figures},
+    {"bad", test_bad_input},
+};
+
+static int asked_for(const char *part, int argc, char **argv)
+{
+    for (int i = 2; i < argc; i++)
+        if (!strcmp(argv[i], part))
+            return 1;
+    return argc == 2;
+}
+
 int main(int argc, char **argv)
 {
-    if (argc != 2) {
-        fprintf(stderr, "use: bench SAMPLES\n");
+    if (argc < 2) {
+        fprintf(stderr, "use: bench SAMPLES [PART...]\n");
         return 2;
     }
+    samples = argv[1];
     signal(SIGSEGV, touched);
     signal(SIGBUS, touched);
     lender_make(&rom_lender, 1 << 20);
@@ -239,16 +274,9 @@ int main(int argc, char **argv)
     lender_make(&out_lender, 1 << 23);
     decoder_start();
     model_start();
-    test_reference();
-    test_marked();
-    test_codes();
-    test_encode();
-    test_steps();
-    test_bytes();
-    test_limits();
-    test_runs(argv[1]);
-    test_figures();
-    test_bad_input();
+    for (size_t i = 0; i < sizeof parts / sizeof *parts; i++)
+        if (asked_for(parts[i].part, argc, argv))
+            parts[i].run();
     printf("bench: %d passed, %d failed\n", passed, failed);
     return failed != 0;
 }

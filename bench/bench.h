@@ -9,6 +9,7 @@
 void begin(const char *name, ...) __attribute__((format(printf, 1, 2)));
 void fail(const char *format, ...) __attribute__((format(printf, 1, 2)));
 void say(const char *format, ...) __attribute__((format(printf, 1, 2)));    /* a further line of the difference just printed */
+void note(const char *format, ...) __attribute__((format(printf, 1, 2)));  /* a line beside the tests */
 int failing(void);
 void count(uint64_t cases);
 void end(const char *unit);                 /* prints a line with the count */

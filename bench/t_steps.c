@@ -1,6 +1,7 @@
 /* Every form's step against the model: random registers, condition bytes and memories with edges forced in, refusals 1 to 7
    with places; and all byte operands of the 8-bit operations. */
 #include "bench.h"
+#include <inttypes.h>
 #include <string.h>
 
 static void random_bytes(uint8_t *p, size_t n)
@@ -95,23 +96,20 @@ static void make_state(struct state *s, int form)
     near_row(s, &d);
 }
 
-/* One thing made wrong: board, PC, condition number, place, code. */
+/* One thing made wrong: board, PC, condition number, place, or the code cut short. */
 static void spoil(struct state *s, int form)
 {
     uint32_t pc = s->regs[H8_PC], length = (uint32_t)decoder_length(form);
-    switch (below(12)) {
+    switch (below(10)) {
     case 0: s->regs[H8_PC] |= 1; break;
     case 1: s->regs[H8_PC] += 16777216u * (1 + below(255)); break;
     case 2: s->regs[H8_CONDITION] += 256 * (1 + below(100)); break;
     case 3: s->base |= 1; break;
     case 4: s->base = below(2) ? s->rom_n - 2 : 16777216 - s->ram_n + 2; break;
     case 5: s->rom_n -= 1; break;
-    case 6: s->ram_n += s->ram_n < SMALL; break;
-    case 7: s->regs[H8_PC] = s->rom_n + 2 * (below(2) ? 0 : below(100)); break;
-    case 8: s->rom_n = pc + 2 * below(length / 2); break;                       /* cut short, or outside */
-    case 9: s->rom[pc + below(length)] ^= (uint8_t)(1u << below(8)); break;
-    case 10: s->regs[H8_PC] = 2 * below(s->rom_n / 2); break;                   /* whatever stands there */
-    default: s->regs[H8_PC] = 0xFFFFFE; break;
+    case 6: s->ram_n += 1; break;
+    case 7: s->regs[H8_PC] = below(2) ? s->rom_n + 2 * (below(2) ? 0 : below(100)) : 0xFFFFFE; break;
+    default: s->rom_n = pc + 2 * below(length / 2); break;                      /* outside, or cut short */
     }
 }
 
@@ -131,28 +129,41 @@ static void steps_of(int form, uint64_t numbers[14])
     }
     if (done < 1000 && !failing())
         fail("only %d states of this form were completed", done);
+    end_quietly();
 }
 
-static uint64_t thousands(uint64_t n) { return n / 1000; }
+/* Code with a bit turned over, and any place of random code. */
+static void steps_anywhere(uint64_t numbers[14])
+{
+    struct state s;
+    begin("step at random words and at codes with a bit turned over");
+    for (int k = 0; k < 200000 && !failing(); k++) {
+        int form = (int)below(FORMS);
+        make_state(&s, form);
+        s.rom[s.regs[H8_PC] + below((uint32_t)decoder_length(form))] ^= (uint8_t)(1u << below(8));
+        if (k % 2)
+            s.regs[H8_PC] = 2 * below(s.rom_n / 2);
+        numbers[compare_step(&s).number]++;
+    }
+    end("states");
+}
 
 void test_steps(void)
 {
     uint64_t n[14] = {0}, all = 0;
-    for (int f = 0; f < FORMS; f++) {
+    for (int f = 0; f < FORMS; f++)
         steps_of(f, n);
-        end_quietly();
-    }
+    steps_anywhere(n);
+    begin("step of each of the 177 forms against the model, completed and refused");
     for (int i = 0; i < 14; i++)
         all += n[i];
-    begin("step of each form against the model: 177 forms, %lluk states (1: %lluk, 2: %lluk, 3: %lluk, 4: %lluk, 5: %lluk, 6: %lluk, 7: %lluk)",
-          (unsigned long long)thousands(all), (unsigned long long)thousands(n[1]), (unsigned long long)thousands(n[2]),
-          (unsigned long long)thousands(n[3]), (unsigned long long)thousands(n[4]), (unsigned long long)thousands(n[5]),
-          (unsigned long long)thousands(n[6]), (unsigned long long)thousands(n[7]));
-    for (int i = 1; i <= 7; i++)
+    for (int i = 0; i <= 7; i++)
         if (n[i] < 1000)
-            fail("refusal %d was met only %llu times", i, (unsigned long long)n[i]);
+            fail("answer %d was met only %llu times", i, (unsigned long long)n[i]);
     count(all);
     end("states");
+    note("completed %" PRIu64 "; refusals 1 to 7: %" PRIu64 " %" PRIu64 " %" PRIu64 " %" PRIu64 " %" PRIu64 " %" PRIu64 " %" PRIu64,
+         n[0], n[1], n[2], n[3], n[4], n[5], n[6], n[7]);
 }
 
 /* ALL BYTES. A board of two bytes of code and no working memory. */
