@@ -171,6 +171,15 @@ uint32_t edge32(void)
     return edges[below(n)] << 16 | (edges[below(n)] & 0xFFFF);
 }
 
+uint32_t from_hex(const char *digits, uint8_t *into)
+{
+    static const char hex[] = "0123456789ABCDEF";
+    uint32_t n = 0;
+    for (; digits[2 * n]; n++)
+        into[n] = (uint8_t)((strchr(hex, digits[2 * n]) - hex) << 4 | (strchr(hex, digits[2 * n + 1]) - hex));
+    return n;
+}
+
 /* Showing. */
 void show_code(const uint8_t *rom, size_t rom_n, uint32_t pc)
 {

@@ -28,6 +28,7 @@ extern struct lender rom_lender, ram_lender, regs_lender, answer_lender, out_len
 uint64_t any(void);                         /* random, by a fixed seed */
 uint32_t below(uint32_t n);
 uint32_t edge32(void);                      /* a number at an edge of 8, 16 or 32 bits, or any */
+uint32_t from_hex(const char *digits, uint8_t *into);   /* how many bytes */
 
 /* A state to step from. `rom` and `ram` are copied into lent memory. */
 enum { SMALL = 1024 };

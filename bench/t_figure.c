@@ -1,5 +1,6 @@
 /* The figure against an enumeration of every path, the longest way, and runs held against the figure. */
 #include "bench.h"
+#include <inttypes.h>
 #include <string.h>
 
 typedef unsigned long long ull;
@@ -70,33 +71,42 @@ static void walk(struct walk *w, uint32_t p, uint64_t total)
         walk(w, to[i], total);
 }
 
-/* A small listing: plain instructions, branches mostly upward and short, returns, and now and then something forbidden. */
+/* One instruction of a small listing at `at` of `n`. */
+static void some_line(uint8_t code[8], uint32_t at, uint32_t n, uint32_t branches, uint32_t trouble)
+{
+    uint32_t up = 2 * below((n - at) / 2 + 1) + (below(8) == 0);
+    static const uint8_t forbidden[][4] = {{0x55, 0x04}, {0x59, 0x10}, {0x5B, 0x20}, {0x5C, 0x00, 0, 4}, {0x5D, 0x20}, {0x5E, 0, 0, 0},
+                                           {0x5F, 0x30}, {0x54, 0x71}, {0x01, 0x02}, {0x46, 0xFC}, {0x58, 0x20, 0xFF, 0xF0}, {0x5A, 0, 0, 0}};
+    memset(code, 0, 8);
+    if (below(100) < trouble)
+        memcpy(code, forbidden[below(12)], 4);
+    else if (below(100) < branches)
+        code[0] = (uint8_t)(0x40 | below(16)), code[1] = (uint8_t)(below(4) ? below(9) : up);
+    else if (below(100) < branches / 4)
+        code[0] = 0x58, code[1] = (uint8_t)(below(16) << 4), code[3] = (uint8_t)up;
+    else if (below(12) == 0)
+        code[0] = 0x5A, code[3] = (uint8_t)(at + 4 + up);
+    else if (below(8) == 0)
+        code[0] = 0x54, code[1] = 0x70;
+    else if (below(2))
+        code[0] = 0x0B, code[1] = 0x50;
+    else
+        build((int)below(136), (uint32_t)any(), (uint32_t)any(), (uint32_t)any(), code);
+}
+
+/* A small listing: plain instructions, branches mostly upward and short, returns, and in some something forbidden. */
 static uint32_t make_listing(uint8_t *rom)
 {
-    uint32_t n = 2 * (1 + below(WORDS)), at = 0, trouble = below(3) == 0;
+    uint32_t n = 2 * (1 + below(WORDS)), at = 0, trouble = below(2) ? 0 : below(12), branches = below(3) ? 30 : 90;
     while (at < n) {
-        uint8_t code[8] = {0x0B, 0x50};
-        uint32_t k = below(20), up = 2 * below((n - at) / 2 + 1) + (below(8) == 0);
-        if (k < 6)
-            code[0] = (uint8_t)(0x40 | below(16)), code[1] = (uint8_t)(below(3) ? below(9) : up);
-        else if (k < 8)
-            code[0] = 0x58, code[1] = (uint8_t)(below(16) << 4), code[2] = 0, code[3] = (uint8_t)up;
-        else if (k == 8)
-            code[0] = 0x5A, code[1] = 0, code[2] = 0, code[3] = (uint8_t)(at + 4 + up);
-        else if (k < 11)
-            code[0] = 0x54, code[1] = 0x70;
-        else if (k < 16)
-            build((int)below(136), (uint32_t)any(), (uint32_t)any(), (uint32_t)any(), code);
-        else if (k == 16 && trouble)
-            build((int)below(FORMS), (uint32_t)any(), (uint32_t)any(), (uint32_t)any(), code);
-        else if (k == 17 && trouble)
-            code[0] = (uint8_t)any(), code[1] = (uint8_t)any();
         struct decoded d;
+        uint8_t code[8];
+        some_line(code, at, n, branches, trouble);
         uint32_t length = decode(code, 8, &d) ? 2 : d.fields[H8_LENGTH];
         for (uint32_t i = 0; i < length && at < n; i++)
             rom[at++] = code[i];
     }
-    if (below(4)) {
+    if (below(8)) {
         rom[n - 2] = 0x54;
         rom[n - 1] = 0x70;
     }
@@ -112,6 +122,8 @@ static void show_listing(const uint8_t *rom, uint32_t n)
     }
 }
 
+static uint64_t answers[14], most_paths;
+
 /* The table's row and the answer for one entry. */
 static void compare_entry(const uint8_t *rom, uint32_t n, uint32_t entry, const uint64_t *table, const uint64_t *answer, uint32_t got)
 {
@@ -122,6 +134,9 @@ static void compare_entry(const uint8_t *rom, uint32_t n, uint32_t entry, const 
     walk(&w, entry, 0);
     number = w.lowest == H8_NONE ? 0 : ways_from(rom, n, w.lowest, &d, to, &ways);
     uint64_t figure = number ? 0 : w.most, place = number ? w.lowest : 0;
+    answers[number]++;
+    if (w.paths > most_paths)
+        most_paths = w.paths;
     if (got != number || answer[0] != number || answer[1] != place || answer[2] != figure || table[entry] != figure
         || table[entry + 1] != w.lowest) {
         fail("figure differs from the enumeration of %llu paths, entry %X", (ull)w.paths, entry);
@@ -267,9 +282,34 @@ static void compare_long(const struct long_listing *l)
         uint64_t figure = p >= n - 4 ? l->last_figures[(p - (n - 4)) / 2] : l->last_figures[0] + (uint64_t)l->each * ((n - 4 - p) / 2);
         right = table[p] == (l->number ? 0 : figure) && table[p + 1] == (l->number ? l->place : H8_NONE);
     }
+    if (right)
+        follow(rom, n, l->entry, table);
     count(n / 2);
     if (!right)
         fail("%s: answers %llu at %llX, figure %llu", l->what, (ull)answer[0], (ull)answer[1], (ull)answer[2]);
+}
+
+/* Lengths that are refused, the table staying as it was. */
+static void wrong_lengths(void)
+{
+    static const uint32_t lengths[] = {524290, 524289, 524287, 1};
+    for (int i = 0; i < 4; i++)
+        for (uint32_t entry = 0; entry < 2; entry++) {
+            uint32_t n = lengths[i];
+            uint8_t *rom = lend(&rom_lender, n);
+            uint64_t *table = lend(&out_lender, 8 * (size_t)n), *answer = lend(&answer_lender, 24);
+            memset(rom, 0, n);
+            memset(table, 0x77, 8 * (size_t)n);
+            uint32_t figure = h8_figure(rom, n, entry, table, n, answer, 3);
+            int right = figure == 1 && answer[0] == 1 && answer[1] == 0 && answer[2] == 0;
+            uint32_t way = h8_way(rom, n, table, n, entry, answer, 3);
+            right &= way == 1 && answer[0] == 1 && answer[1] == 0 && answer[2] == 0;
+            for (uint32_t k = 0; k < n; k++)
+                right &= table[k] == 0x7777777777777777;
+            if (!right)
+                fail("a length of %u: figure answers %u, way %u, or the table changed", n, figure, way);
+            count(2);
+        }
 }
 
 /* Short listings whose answers are written out. */
@@ -299,15 +339,12 @@ static const struct told tolds[] = {
     {"RTS alone", "5470", 0, 0, 0, 10},
 };
 
-static unsigned digit(char c) { return c <= '9' ? (unsigned)(c - '0') : (unsigned)(c - 'A' + 10); }
-
 static void compare_told(const struct told *t)
 {
     uint32_t n = (uint32_t)strlen(t->code) / 2;
     uint8_t *rom = lend(&rom_lender, n);
     uint64_t *table = lend(&out_lender, 8 * n), *answer = lend(&answer_lender, 24);
-    for (uint32_t i = 0; i < n; i++)
-        rom[i] = (uint8_t)(digit(t->code[2 * i]) << 4 | digit(t->code[2 * i + 1]));
+    from_hex(t->code, rom);
     uint32_t got = h8_figure(rom, n, t->entry, table, n, answer, 3);
     if (got != t->number || answer[0] != t->number || answer[1] != t->place || answer[2] != t->figure)
         fail("%s (%s): %llu at %llX, figure %llu; wanted %u at %X, figure %u", t->what, t->code, (ull)answer[0], (ull)answer[1],
@@ -325,12 +362,17 @@ void test_figures(void)
     for (int k = 0; k < 6000 && !failing(); k++)
         compare_listing();
     end("entries");
+    note("figures %" PRIu64 "; refusals 2, 3, 4, 9, 10: %" PRIu64 " %" PRIu64 " %" PRIu64 " %" PRIu64 " %" PRIu64 "; up to %" PRIu64 " paths",
+         answers[0], answers[2], answers[3], answers[4], answers[9], answers[10], most_paths);
     begin("no run above its figure");
     for (int k = 0; k < 20000 && !failing(); k++)
         runs_of_listing();
     end("runs");
-    begin("figure of listings as long as can be, whole tables");
+    begin("figure and way on listings as long as can be, whole tables");
     for (size_t i = 0; i < sizeof long_listings / sizeof *long_listings; i++)
         compare_long(&long_listings[i]);
     end("places");
+    begin("figure and way: lengths 524,290 and odd");
+    wrong_lengths();
+    end("calls");
 }

@@ -176,8 +176,6 @@ static const struct access accesses[] = {
     {"JSR @@ inside, no stack: 6", "5F04", 16, 0x100, 0, 0, 6, 0xFFFFFC, 0},
 };
 
-static unsigned nibble(char c) { return c <= '9' ? (unsigned)(c - '0') : (unsigned)(c - 'A' + 10); }
-
 static void access_at(const struct access *a)
 {
     struct state s = {.base = a->base, .rom_n = a->rom_n, .ram_n = a->ram_n};
@@ -185,8 +183,7 @@ static void access_at(const struct access *a)
         s.rom[i] = (uint8_t)i;
     for (uint32_t i = 0; i < a->ram_n; i++)
         s.ram[i] = (uint8_t)(a->base + i);
-    for (uint32_t i = 0; a->code[2 * i]; i++)
-        s.rom[i] = (uint8_t)(nibble(a->code[2 * i]) << 4 | nibble(a->code[2 * i + 1]));
+    from_hex(a->code, s.rom);
     s.regs[1] = a->er1;
     struct outcome o = compare_step(&s);
     uint32_t *regs = (uint32_t *)(void *)regs_lender.now;
@@ -212,8 +209,7 @@ static const struct reach reaches[] = {
 static void reach_of(const struct reach *r)
 {
     struct state s = {.base = 0x200, .rom_n = 0x200, .ram_n = 8, .regs = {[7] = 0x208}};
-    for (uint32_t i = 0; r->code[2 * i]; i++)
-        s.rom[r->at + i] = (uint8_t)(nibble(r->code[2 * i]) << 4 | nibble(r->code[2 * i + 1]));
+    from_hex(r->code, s.rom + r->at);
     s.regs[H8_PC] = r->at;
     s.regs[H8_CONDITION] = r->condition;
     compare_step(&s);
@@ -257,11 +253,67 @@ static void budget_of(const struct spent *b)
     count(1);
 }
 
+/* THE LONGEST BOARD: 524,288 bytes of code, 65,536 of working memory. A code at a place, compared with the model whole. */
+struct far { const char *what, *code; uint32_t at, er1, base, number, place; };
+static const struct far fars[] = {
+    {"NOP at the last place", "0000", 524286, 0, 524288, 0, 0},
+    {"MOV.L ER0,@aa:24 in the last eight bytes", "01006BA000090000", 524280, 0, 0x90000, 0, 0},
+    {"MOV.L ER0,@aa:24 cut short by two", "01006BA00009", 524282, 0, 0x90000, 4, 524282},
+    {"MOV.W behind the last place", "6910", 524286, 524288, 0x90000, 5, 524288},
+    {"MOV.W of the last word of code", "6910", 0, 524287, 0x90000, 0, 0},
+    {"MOV.L from code into working memory", "01006910", 0, 524286, 524288, 0, 0},
+    {"MOV.W to the last word of working memory", "6990", 0, 0x9FFFE, 0x90000, 0, 0},
+    {"MOV.W behind working memory", "6990", 0, 0xA0000, 0x90000, 6, 0xA0000},
+    {"MOV.B to the last byte of all", "6898", 0, 0xFFFFFF, 0xFF0000, 0, 0},
+    {"MOV.L over the last byte of all", "01006990", 0, 0xFFFFFE, 0xFF0000, 6, 0},
+    {"MOV.B @aa:8", "38FF", 0, 0, 0xFF0000, 0, 0},
+};
+
+static void far_step(const struct far *f)
+{
+    static uint8_t model_ram[H8_RAM_MAX];
+    uint8_t *rom = lend(&rom_lender, H8_ROM_MAX), *ram = lend(&ram_lender, H8_RAM_MAX);
+    uint32_t *regs, model_regs[10], *answer = lend(&answer_lender, 12);
+    memset(rom, 0x5A, H8_ROM_MAX);
+    memset(ram, 0x3C, H8_RAM_MAX);
+    memset(model_ram, 0x3C, H8_RAM_MAX);
+    from_hex(f->code, rom + f->at);
+    lend_registers(&regs, f->at, 0xFF);
+    regs[1] = f->er1;
+    memcpy(model_regs, regs, 40);
+    struct board b = {f->base, rom, H8_ROM_MAX, model_ram, H8_RAM_MAX};
+    struct outcome o = model_step(&b, model_regs);
+    h8_step(f->base, rom, H8_ROM_MAX, ram, H8_RAM_MAX, regs, 10, answer, 3);
+    if (answer[0] != f->number || answer[1] != f->place || answer[2] != o.states || o.number != f->number || o.place != f->place
+        || memcmp(regs, model_regs, 40) || memcmp(ram, model_ram, H8_RAM_MAX))
+        fail("longest board, %s: answers %u at %X; wanted %u at %X", f->what, answer[0], answer[1], f->number, f->place);
+    count(1);
+}
+
+/* From one end of the code to the other. */
+static void far_run(void)
+{
+    uint8_t *rom = lend(&rom_lender, H8_ROM_MAX), *ram = lend(&ram_lender, H8_RAM_MAX);
+    uint32_t *regs;
+    uint64_t *answer = lend(&answer_lender, 40);
+    memset(rom, 0, H8_ROM_MAX);
+    lend_registers(&regs, 0, 0);
+    uint32_t got = h8_run(0xFF0000, rom, H8_ROM_MAX, ram, H8_RAM_MAX, regs, 10, 0xFFFFFFFF, 1000000, answer, 5);
+    if (got != 2 || answer[1] != 524288 || answer[2] != 262144 || answer[3] != 524288 || answer[4] != H8_REFUSED || regs[H8_PC] != 524288)
+        fail("a run over 262,144 NOPs answers %u at %llX after %llu steps", got, (unsigned long long)answer[1], (unsigned long long)answer[2]);
+    count(1);
+}
+
 void test_limits(void)
 {
     begin("limits of the board, PC and condition number, in step and run");
     boards();
     lengths_past_32_bits();
+    end("calls");
+    begin("the longest board: steps at its ends, and a run from end to end");
+    for (size_t i = 0; i < sizeof fars / sizeof *fars; i++)
+        far_step(&fars[i]);
+    far_run();
     end("calls");
     begin("longwords, words and bytes at the ends of memory and over FFFFFF");
     for (size_t i = 0; i < sizeof accesses / sizeof *accesses; i++)

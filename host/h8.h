@@ -33,7 +33,17 @@
    A `regs` or a `fields` to be filled that is too short is looked for next. After these two each function's own order follows.
 
    On a refusal nothing lent changes but `answer`, with two exceptions: h8_run keeps the steps it completed, and h8_figure
-   fills its table on 2, 3, 4, 9 and 10. */
+   fills its table on 2, 3, 4, 9 and 10.
+
+   AN EXAMPLE: how many states a routine at 0x100 can take.
+
+     uint8_t rom[4096];                          // filled from a file; rom_n bytes of it
+     uint64_t table[4096], answer[3];
+     if (h8_figure(rom, rom_n, 0x100, table, rom_n, answer, 3) == 0)
+         printf("at most %llu states\n", (unsigned long long)answer[2]);
+     else
+         printf("refusal %llu at %06llX\n", (unsigned long long)answer[0], (unsigned long long)answer[1]);
+ */
 #ifndef H8_H
 #define H8_H
 
