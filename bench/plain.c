@@ -748,18 +748,24 @@ static uint32_t told(uint64_t *answer, uint64_t number, uint64_t place, uint64_t
     return (uint32_t)number;
 }
 
-uint32_t plain_figure(const uint8_t *rom, size_t rom_n, uint32_t entry, uint64_t *table, size_t table_n,
-                      uint64_t *answer, size_t answer_n)
+/* 13 for the answer, 1, 8, 13 for the table. */
+static uint32_t bad_lent(size_t rom_n, uint32_t entry, size_t table_n, uint64_t *answer, size_t answer_n)
 {
-    uint32_t n = (uint32_t)rom_n;
     if (answer_n < 3)
         return 13;
     if (rom_n % 2 || rom_n > 524288)
         return told(answer, 1, 0, 0);
-    if (entry % 2 || entry >= n)
+    if (entry % 2 || entry >= rom_n)
         return told(answer, 8, entry, 0);
-    if (table_n < rom_n)
-        return told(answer, 13, rom_n, 0);
+    return table_n < rom_n ? told(answer, 13, rom_n, 0) : 0;
+}
+
+uint32_t plain_figure(const uint8_t *rom, size_t rom_n, uint32_t entry, uint64_t *table, size_t table_n,
+                      uint64_t *answer, size_t answer_n)
+{
+    uint32_t n = (uint32_t)rom_n, bad = bad_lent(rom_n, entry, table_n, answer, answer_n);
+    if (bad)
+        return bad;
     for (uint32_t p = n; p > 0;) {
         p -= 2;
         struct figures r = reckon(table, n, p, look(rom, n, p));
@@ -774,16 +780,10 @@ uint32_t plain_figure(const uint8_t *rom, size_t rom_n, uint32_t entry, uint64_t
 uint32_t plain_way(const uint8_t *rom, size_t rom_n, const uint64_t *table, size_t table_n, uint32_t place,
                    uint64_t *answer, size_t answer_n)
 {
-    uint32_t n = (uint32_t)rom_n;
+    uint32_t n = (uint32_t)rom_n, bad = bad_lent(rom_n, place, table_n, answer, answer_n);
     struct line l;
-    if (answer_n < 3)
-        return 13;
-    if (rom_n % 2 || rom_n > 524288)
-        return told(answer, 1, 0, 0);
-    if (place % 2 || place >= n)
-        return told(answer, 8, place, 0);
-    if (table_n < rom_n)
-        return told(answer, 13, rom_n, 0);
+    if (bad)
+        return bad;
     if (table[place + 1] != H8_NONE)
         return told(answer, why(rom, n, table[place + 1]), table[place + 1], 0);
     l = look(rom, n, place);

@@ -79,12 +79,22 @@ static void want(const char *what, uint64_t got, uint64_t wanted)
         fail("%s: %llu, wanted %llu", what, (ull)got, (ull)wanted);
 }
 
+/* A loop has no figure: the branch back is the lowest forbidden place. */
+static void has_loop(const struct board *b, uint64_t place)
+{
+    static uint64_t table[4096];
+    uint64_t answer[3];
+    want("figure of a loop", h8_figure(b->rom, b->rom_n, 0, table, 4096, answer, 3), 10);
+    want("its branch back", answer[1], place);
+}
+
 static void decimal_counter(const char *folder)
 {
     uint8_t ram[1];
     uint32_t regs[10] = {0xDEADBEEF};
     struct board b = sample(folder, "decimal", ram, 0);
     struct ran r = compare_run(&b, regs, 0x24, 1000000);
+    has_loop(&b, 0x12);
     want("decimal: R0", regs[0], 0xDEAD0001);
     want("decimal: PC", regs[H8_PC], 0x24);
     want("decimal: ending", (uint64_t)r.ending, H8_STOPPED);
@@ -99,6 +109,7 @@ static void copy_loop(const char *folder)
     memset(ram, 0x77, sizeof ram);
     struct board b = sample(folder, "copy", ram, sizeof ram);
     struct ran r = compare_run(&b, regs, 0x22, 1000000);
+    has_loop(&b, 0x1C);
     want("copy: ending", (uint64_t)r.ending, H8_STOPPED);
     want("copy: steps", r.steps, 2 + 64 * (2 + 32 * 5 + 2));
     want("copy: states", r.states, 10 + 64 * (10 + 32 * 18 + 6));

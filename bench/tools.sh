@@ -11,7 +11,9 @@ need() { # COMMAND PACKAGE...: the command, installed if it is missing
     command -v "$command" >/dev/null && return
     if [ "$(id -u)" = 0 ] && command -v apt-get >/dev/null; then
         echo "bench: installing $*" >&2
-        { apt-get install -y --no-install-recommends "$@" || { apt-get update && apt-get install -y --no-install-recommends "$@"; }; } >"$out/apt.log" 2>&1
+        export DEBIAN_FRONTEND=noninteractive
+        { apt-get install -y --no-install-recommends "$@" || { apt-get update && apt-get install -y --no-install-recommends "$@"; }; } \
+            >"$out/apt.log" 2>&1 || true
     fi
     command -v "$command" >/dev/null || { echo "bench: $command is missing: install $*" >&2; exit 2; }
 }
@@ -23,8 +25,13 @@ if [ "$(uname -m)" = x86_64 ]; then
 else
     need x86_64-linux-gnu-gcc gcc-x86-64-linux-gnu libc6-dev-amd64-cross
     compiler=x86_64-linux-gnu-gcc
-    command -v qemu-x86_64 >/dev/null || command -v qemu-x86_64-static >/dev/null || need qemu-x86_64 qemu-user
-    emulator=$(command -v qemu-x86_64 || command -v qemu-x86_64-static)
+    # an emulator of the system, else the one that the toolchain has beside its compiler, else Debian's
+    kit=${RATTLE_HOME:-$(dirname "$(dirname "$(readlink -f "$(command -v rt || echo /)")")")}/on/$(uname -m)/toolchain/bin/qemu-x86_64
+    emulator=$(command -v qemu-x86_64 || command -v qemu-x86_64-static || command -v "$kit" || true)
+    if [ -z "$emulator" ]; then
+        need qemu-x86_64 qemu-user
+        emulator=$(command -v qemu-x86_64)
+    fi
 fi
 [ -z "${BENCH_EMULATOR:-}" ] || emulator=$BENCH_EMULATOR    # to try the emulator on x86-64
 
