@@ -137,7 +137,7 @@ uint32_t h8_step(uint32_t base, const uint8_t *rom, size_t rom_n, uint8_t *ram, 
 
 /* Steps until PC is `stop`, or `budget` steps are done, or a step is refused. Before each step it looks first for the stop
    address and then for the budget. Any `stop` is allowed; one that PC can't hold is never met.
-   answer, 5 numbers: [number, place, steps done, the sum of their states, ending].
+   answer, 5 numbers: [number, place, steps done, the sum of their states, ending]; the ending of every refusal is H8_REFUSED.
    Looks for: 13 (answer_n below 5: nothing written), 13 (regs_n below 10: place 10), 12, 1; in these four cases no step is
    done. Then the refusals of a step. `regs` and `ram` are as the completed steps leave them, whatever the ending. */
 enum h8_ending { H8_STOPPED, H8_SPENT, H8_REFUSED };
