@@ -218,6 +218,40 @@ static void reach_of(const struct reach *r)
         fail("%s at %X goes to %X, wanted %X", r->code, r->at, regs[H8_PC], r->pc);
 }
 
+/* OWN PARTS and odd registers. ER0 and ER7 before and after; the word of working memory at `base` before and after. */
+struct own { const char *what, *code; uint32_t base, er0, er7, ram, er0_after, er7_after, ram_after, pc; };
+static const struct own owns[] = {
+    {"MOV.B @ER0+,R0L: the sum's carry stays in R0H", "6C08", 0xFE, 0xFF, 0, 0x335A, 0x015A, 0, 0x335A, 2},
+    {"MOV.B @ER0+,R0H", "6C00", 0xFE, 0xFE, 0, 0x335A, 0x33FF, 0, 0x335A, 2},
+    {"MOV.W @ER0+,R0: the sum's carry stays in E0", "6D00", 0xFFFE, 0xFFFE, 0, 0x335A, 0x0001335A, 0, 0x335A, 2},
+    {"MOV.W @ER0+,E0: R0 keeps the sum", "6D08", 0xFE, 0xFE, 0, 0x335A, 0x335A0100, 0, 0x335A, 2},
+    {"MOV.B R0L,@-ER0 stores the lowered value", "6C88", 0xFE, 0x100, 0, 0x335A, 0xFF, 0, 0x33FF, 2},
+    {"MOV.B R0H,@-ER0 stores the lowered value", "6C80", 0xFE, 0x100, 0, 0x335A, 0xFF, 0, 0x3300, 2},
+    {"MOV.W R0,@-ER0 stores the lowered value", "6D80", 0xFE, 0x100, 0, 0x335A, 0xFE, 0, 0x00FE, 2},
+    {"MOV.W E0,@-ER0 stores the lowered value", "6D88", 0xFFFE, 0x10000, 0, 0x335A, 0xFFFE, 0, 0x0000, 2},
+    {"MOV.W R0,@-ER0, odd: only the access is even", "6D80", 0xFE, 0x101, 0, 0x335A, 0xFF, 0, 0x00FF, 2},
+    {"MOV.B of ER7", "6C78", 0xFE, 0, 0xFF, 0x335A, 0x5A, 0x100, 0x335A, 2},
+    {"JSR @ER7: the target is taken before the push", "5D70", 0xFE, 0, 0x102, 0x335A, 0, 0xFE, 0x0000, 0x102},
+    {"JSR with ER7 odd", "5E000041", 0xFE, 0, 0x103, 0x335A, 0, 0xFF, 0x0000, 0x40},
+    {"RTS ignores the first byte and ER7's lowest bit", "5470", 0xFE, 0, 0x550000FF, 0x7712, 0, 0x55000103, 0x7712, 0x123456},
+};
+
+static void own_part(const struct own *w)
+{
+    struct state s = {.base = w->base, .rom_n = 0x40, .ram_n = 4, .regs = {w->er0, [7] = w->er7}};
+    s.ram[0] = (uint8_t)(w->ram >> 8);
+    s.ram[1] = (uint8_t)w->ram;
+    s.ram[2] = 0x34;
+    s.ram[3] = 0x57;
+    from_hex(w->code, s.rom);
+    compare_step(&s);
+    uint32_t *regs = (uint32_t *)(void *)regs_lender.now, ram = (uint32_t)(ram_lender.now[0] << 8 | ram_lender.now[1]);
+    if (regs[0] != w->er0_after || regs[7] != w->er7_after || regs[H8_PC] != w->pc || ram != w->ram_after) {
+        fail("%s: memory %04X, wanted %04X; wanted ER0 %X, ER7 %X, PC %X", w->what, ram, w->ram_after, w->er0_after, w->er7_after, w->pc);
+        show_registers("after", regs);
+    }
+}
+
 /* BUDGETS. BRA to itself, 4 states a step. */
 struct spent { const char *what; uint32_t stop, budget, base, number; uint64_t steps; int ending; };
 static const struct spent budgets[] = {
@@ -322,6 +356,10 @@ void test_limits(void)
     begin("branches 7F and 80, 7FFF and 8000, odd targets, BSR, JMP, JSR");
     for (size_t i = 0; i < sizeof reaches / sizeof *reaches; i++)
         reach_of(&reaches[i]);
+    end("steps");
+    begin("own parts of @ER+ and @-ER, odd registers, JSR @ER7, RTS");
+    for (size_t i = 0; i < sizeof owns / sizeof *owns; i++)
+        own_part(&owns[i]);
     end("steps");
     begin("budgets 0, 1, 1,000,000 and 1,000,001, and stop addresses");
     for (size_t i = 0; i < sizeof budgets / sizeof *budgets; i++)
