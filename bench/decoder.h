@@ -1,5 +1,5 @@
-/* The set as a table of digit patterns, and a decoder that only matches them. Test code: written from section 2.4 of the
-   maker's manual (states from 2.6) and from nothing of the product. */
+/* The set as a table of digit patterns, and a decoder that only matches them. Test code: the codes are those of the maker's
+   manual (section 2.4, and the pages of 2.2 where its text is damaged), the cycles those of 2.6; nothing is of the product. */
 #ifndef DECODER_H
 #define DECODER_H
 
