@@ -1,0 +1,58 @@
+/* What the tests share: reporting, lent memory with guards, random numbers, and the comparison of a step with the model. */
+#ifndef BENCH_H
+#define BENCH_H
+
+#include "decoder.h"
+#include "model.h"
+
+/* A test is begun, run and ended. Its first difference is printed in full; `failing` tells its loops to leave. */
+void begin(const char *name, ...) __attribute__((format(printf, 1, 2)));
+void fail(const char *format, ...) __attribute__((format(printf, 1, 2)));
+void say(const char *format, ...) __attribute__((format(printf, 1, 2)));    /* a further line of the difference just printed */
+void note(const char *format, ...) __attribute__((format(printf, 1, 2)));  /* a line beside the tests */
+int failing(void);
+void count(uint64_t cases);
+void end(const char *unit);                 /* prints a line with the count */
+void end_quietly(void);                     /* prints nothing if all was well */
+
+/* Memory that is lent so that it ends at a page that may not be touched, with guard bytes before it. */
+struct lender {
+    uint8_t *end, *now;
+    size_t room;
+};
+void lender_make(struct lender *l, size_t room);
+void *lend(struct lender *l, size_t bytes);
+int guards_stand(const struct lender *l);
+extern struct lender rom_lender, ram_lender, regs_lender, answer_lender, out_lender;
+
+uint64_t any(void);                         /* random, by a fixed seed */
+uint32_t below(uint32_t n);
+uint32_t edge32(void);                      /* a number at an edge of 8, 16 or 32 bits, or any */
+uint32_t from_hex(const char *digits, uint8_t *into);   /* how many bytes */
+
+/* A state to step from. `rom` and `ram` are copied into lent memory. */
+enum { SMALL = 1024 };
+struct state {
+    uint32_t base, regs[10];
+    uint32_t rom_n, ram_n;
+    uint8_t rom[SMALL], ram[SMALL];
+};
+
+/* The library's step and the model's from the same state, compared whole. Answers the model's outcome; fails the test on a
+   difference, naming the form. */
+struct outcome compare_step(const struct state *s);
+void show_code(const uint8_t *rom, size_t rom_n, uint32_t pc);
+void show_registers(const char *title, const uint32_t regs[10]);
+
+void test_reference(void);
+void test_marked(void);
+void test_codes(void);
+void test_encode(void);
+void test_steps(void);
+void test_bytes(void);
+void test_limits(void);
+void test_runs(const char *samples);
+void test_figures(void);
+void test_bad_input(void);
+
+#endif

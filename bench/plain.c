@@ -1,0 +1,795 @@
+#include "plain.h"
+
+#define ALWAYS static inline __attribute__((always_inline))
+
+enum { CF = 1, VF = 2, ZF = 4, NF = 8, HF = 32 };
+
+struct machine {
+    uint32_t er[8], pc, cc;
+    const uint8_t *rom;
+    uint8_t *ram;
+    uint32_t rom_n, base, ram_n;
+    uint32_t number, place;
+};
+
+/* Registers by digit. */
+ALWAYS uint32_t get8(const struct machine *m, uint32_t d) { return m->er[d & 7] >> (d & 8 ? 0 : 8) & 0xFF; }
+ALWAYS uint32_t get16(const struct machine *m, uint32_t d) { return m->er[d & 7] >> (d & 8 ? 16 : 0) & 0xFFFF; }
+ALWAYS void put8(struct machine *m, uint32_t d, uint32_t x)
+{
+    uint32_t s = d & 8 ? 0 : 8;
+    m->er[d & 7] = (m->er[d & 7] & ~(0xFFu << s)) | x << s;
+}
+ALWAYS void put16(struct machine *m, uint32_t d, uint32_t x)
+{
+    uint32_t s = d & 8 ? 16 : 0;
+    m->er[d & 7] = (m->er[d & 7] & ~(0xFFFFu << s)) | x << s;
+}
+ALWAYS uint32_t get(const struct machine *m, uint32_t d, int bits)
+{
+    return bits == 8 ? get8(m, d) : bits == 16 ? get16(m, d) : m->er[d & 7];
+}
+ALWAYS void put(struct machine *m, uint32_t d, uint32_t x, int bits)
+{
+    if (bits == 8)
+        put8(m, d, x);
+    else if (bits == 16)
+        put16(m, d, x);
+    else
+        m->er[d & 7] = x;
+}
+ALWAYS uint32_t top(int bits) { return 1u << (bits - 1); }
+ALWAYS uint32_t mask(int bits) { return bits == 32 ? ~0u : (1u << bits) - 1; }
+
+ALWAYS int refuse(struct machine *m, uint32_t number, uint32_t place)
+{
+    m->number = number;
+    m->place = place;
+    return 0;
+}
+
+/* Memory. Words and longwords are taken at the even address. */
+ALWAYS const uint8_t *seen(const struct machine *m, uint32_t a)
+{
+    if (a < m->rom_n)
+        return m->rom + a;
+    return a - m->base < m->ram_n ? m->ram + (a - m->base) : 0;
+}
+ALWAYS int load(struct machine *m, uint32_t ea, int bits, uint32_t *x)
+{
+    uint32_t a = ea & (bits == 8 ? 0xFFFFFF : 0xFFFFFE), b = (a + 2) & 0xFFFFFF;
+    const uint8_t *p = seen(m, a), *q;
+    if (!p)
+        return refuse(m, 5, a);
+    if (bits == 8)
+        return *x = p[0], 1;
+    *x = (uint32_t)p[0] << 8 | p[1];
+    if (bits == 16)
+        return 1;
+    q = seen(m, b);
+    if (!q)
+        return refuse(m, 5, b);
+    *x = *x << 16 | (uint32_t)q[0] << 8 | q[1];
+    return 1;
+}
+ALWAYS int save(struct machine *m, uint32_t ea, int bits, uint32_t x)
+{
+    uint32_t a = ea & (bits == 8 ? 0xFFFFFF : 0xFFFFFE), b = (a + 2) & 0xFFFFFF;
+    if (a - m->base >= m->ram_n)
+        return refuse(m, 6, a);
+    if (bits == 32 && b - m->base >= m->ram_n)
+        return refuse(m, 6, b);
+    uint8_t *p = m->ram + (a - m->base);
+    if (bits == 8)
+        return p[0] = (uint8_t)x, 1;
+    if (bits == 32) {
+        uint8_t *q = m->ram + (b - m->base);
+        q[0] = (uint8_t)(x >> 8);
+        q[1] = (uint8_t)x;
+        x >>= 16;
+    }
+    p[0] = (uint8_t)(x >> 8);
+    p[1] = (uint8_t)x;
+    return 1;
+}
+
+/* Flags. */
+ALWAYS uint32_t nz(uint32_t r, int bits) { return (r & top(bits) ? NF : 0) | (r == 0 ? ZF : 0); }
+ALWAYS void moved(struct machine *m, uint32_t r, int bits) { m->cc = (m->cc & ~(uint32_t)(NF | ZF | VF)) | nz(r, bits); }
+
+ALWAYS uint32_t sum(struct machine *m, uint32_t d, uint32_t s, uint32_t carry, int bits)
+{
+    uint64_t wide = (uint64_t)d + s + carry;
+    uint32_t r = (uint32_t)wide & mask(bits);
+    m->cc = (m->cc & ~(uint32_t)(HF | NF | ZF | VF | CF)) | nz(r, bits) | (wide >> bits & 1 ? CF : 0)
+        | ((d ^ s ^ r) >> (bits - 4) & 1 ? HF : 0) | (~(d ^ s) & (d ^ r) & top(bits) ? VF : 0);
+    return r;
+}
+ALWAYS uint32_t difference(struct machine *m, uint32_t d, uint32_t s, uint32_t borrow, int bits)
+{
+    uint64_t wide = (uint64_t)d - s - borrow;
+    uint32_t r = (uint32_t)wide & mask(bits);
+    m->cc = (m->cc & ~(uint32_t)(HF | NF | ZF | VF | CF)) | nz(r, bits) | (wide >> bits & 1 ? CF : 0)
+        | ((d ^ s ^ r) >> (bits - 4) & 1 ? HF : 0) | ((d ^ s) & (d ^ r) & top(bits) ? VF : 0);
+    return r;
+}
+/* ADDX, SUBX: Z stays when the result is zero. */
+ALWAYS void sticky_zero(struct machine *m, uint32_t before) { m->cc &= ~(uint32_t)ZF | before; }
+
+enum { ADD, SUB, CMP, MOV, ADDX, SUBX, OR, XOR, AND };
+
+ALWAYS int alu(struct machine *m, int op, uint32_t s, uint32_t d, int bits)
+{
+    uint32_t x = op == MOV ? 0 : get(m, d, bits), old = m->cc;
+    switch (op) {
+    case ADD: put(m, d, sum(m, x, s, 0, bits), bits); break;
+    case SUB: put(m, d, difference(m, x, s, 0, bits), bits); break;
+    case CMP: difference(m, x, s, 0, bits); break;
+    case ADDX: put(m, d, sum(m, x, s, old & CF, bits), bits); sticky_zero(m, old); break;
+    case SUBX: put(m, d, difference(m, x, s, old & CF, bits), bits); sticky_zero(m, old); break;
+    case OR: x |= s; moved(m, x, bits); put(m, d, x, bits); break;
+    case XOR: x ^= s; moved(m, x, bits); put(m, d, x, bits); break;
+    case AND: x &= s; moved(m, x, bits); put(m, d, x, bits); break;
+    default: moved(m, s, bits); put(m, d, s, bits); break;
+    }
+    return 2;
+}
+ALWAYS int alu_regs(struct machine *m, int op, uint32_t b1, int bits)
+{
+    return alu(m, op, get(m, b1 >> 4, bits), b1 & 15, bits);
+}
+/* 0A, 0F, 1A, 1F with the upper digit 8 to F. */
+ALWAYS int alu_long(struct machine *m, int op, uint32_t b1)
+{
+    return b1 & 8 ? refuse(m, 3, m->pc) : alu(m, op, m->er[b1 >> 4 & 7], b1, 32);
+}
+
+ALWAYS int step_by(struct machine *m, uint32_t d, uint32_t by, int down, int bits)
+{
+    uint32_t x = get(m, d, bits), r = (down ? x - by : x + by) & mask(bits);
+    uint32_t v = down ? x & ~r : ~x & r;
+    m->cc = (m->cc & ~(uint32_t)(NF | ZF | VF)) | nz(r, bits) | (v & top(bits) ? VF : 0);
+    put(m, d, r, bits);
+    return 2;
+}
+static int group_0b(struct machine *m, uint32_t b1, int down)
+{
+    uint32_t d = b1 & 15, e = d & 7, by = b1 >> 4 == 0 ? 1 : b1 >> 4 == 8 ? 2 : 4;
+    switch (b1 >> 4) {
+    case 5: return step_by(m, d, 1, down, 16);
+    case 13: return step_by(m, d, 2, down, 16);
+    case 7: return d > 7 ? refuse(m, 3, m->pc) : step_by(m, e, 1, down, 32);
+    case 15: return d > 7 ? refuse(m, 3, m->pc) : step_by(m, e, 2, down, 32);
+    case 0: case 8: case 9:
+        if (d > 7)
+            return refuse(m, 3, m->pc);
+        m->er[e] += down ? 0 - by : by;
+        return 2;
+    default: return refuse(m, 3, m->pc);
+    }
+}
+
+static int adjust_up(struct machine *m, uint32_t d)
+{
+    uint32_t x = get8(m, d), c = m->cc & CF, h = m->cc & HF, up = x >> 4, low = x & 15, add;
+    if (h ? low > 3 : 0)
+        return refuse(m, 7, m->pc);
+    add = h || low > 9 ? 6 : 0;
+    if (c) {
+        if (up > (h ? 3u : 2u))
+            return refuse(m, 7, m->pc);
+        add += 0x60;
+    } else if (up > (!h && low > 9 ? 8u : 9u)) {
+        add += 0x60;
+    }
+    x = (x + add) & 0xFF;
+    m->cc = (m->cc & ~(uint32_t)(NF | ZF)) | nz(x, 8) | (add >= 0x60 ? CF : 0);
+    put8(m, d, x);
+    return 2;
+}
+static int adjust_down(struct machine *m, uint32_t d)
+{
+    uint32_t x = get8(m, d), c = m->cc & CF, h = m->cc & HF, up = x >> 4, low = x & 15;
+    int good = (h ? low >= 6 : low <= 9) && (c ? up >= (h ? 6u : 7u) : up <= (h ? 8u : 9u));
+    if (!good)
+        return refuse(m, 7, m->pc);
+    x = (x + (h ? 0xFA : 0) + (c ? 0xA0 : 0)) & 0xFF;
+    m->cc = (m->cc & ~(uint32_t)(NF | ZF)) | nz(x, 8);
+    put8(m, d, x);
+    return 2;
+}
+
+/* SHLL SHLR ROTXL ROTXR by k; with the upper digit 8 SHAL SHAR ROTL ROTR. */
+ALWAYS int shift(struct machine *m, int k, int second, uint32_t d, int bits)
+{
+    uint32_t x = get(m, d, bits), t = x & top(bits) ? 1 : 0, in, r, out;
+    if (k & 1) {
+        in = k == 1 ? (second ? t : 0) : (second ? x & 1 : m->cc & CF);
+        r = x >> 1 | in << (bits - 1);
+        out = x & 1;
+    } else {
+        in = k == 0 ? 0 : (second ? t : m->cc & CF);
+        r = (x << 1 & mask(bits)) | in;
+        out = t;
+    }
+    m->cc = (m->cc & ~(uint32_t)(NF | ZF | VF | CF)) | nz(r, bits) | (out ? CF : 0)
+        | (k == 0 && second && (x ^ r) & top(bits) ? VF : 0);
+    put(m, d, r, bits);
+    return 2;
+}
+ALWAYS int shifts(struct machine *m, int k, uint32_t b1)
+{
+    uint32_t d = b1 & 15, second = b1 >> 7;
+    switch (b1 >> 4 & 7) {
+    case 0: return shift(m, k, (int)second, d, 8);
+    case 1: return shift(m, k, (int)second, d, 16);
+    case 3: return d > 7 ? refuse(m, 3, m->pc) : shift(m, k, (int)second, d, 32);
+    default: return refuse(m, 3, m->pc);
+    }
+}
+
+ALWAYS int unary(struct machine *m, int kind, uint32_t d, int bits)
+{
+    uint32_t x = get(m, d, bits), r, half = mask(bits / 2);
+    if (kind == 1) {
+        put(m, d, difference(m, 0, x, 0, bits), bits);
+        return 2;
+    }
+    r = kind == 0 ? ~x & mask(bits) : kind == 2 ? x & half : x & top(bits / 2) ? x | (mask(bits) & ~half) : x & half;
+    moved(m, r, bits);
+    put(m, d, r, bits);
+    return 2;
+}
+static int group_17(struct machine *m, uint32_t b1)
+{
+    uint32_t d = b1 & 15;
+    switch (b1 >> 4) {
+    case 0: return unary(m, 0, d, 8);
+    case 1: return unary(m, 0, d, 16);
+    case 3: return d > 7 ? refuse(m, 3, m->pc) : unary(m, 0, d, 32);
+    case 5: return unary(m, 2, d, 16);
+    case 7: return d > 7 ? refuse(m, 3, m->pc) : unary(m, 2, d, 32);
+    case 8: return unary(m, 1, d, 8);
+    case 9: return unary(m, 1, d, 16);
+    case 11: return d > 7 ? refuse(m, 3, m->pc) : unary(m, 1, d, 32);
+    case 13: return unary(m, 3, d, 16);
+    case 15: return d > 7 ? refuse(m, 3, m->pc) : unary(m, 3, d, 32);
+    default: return refuse(m, 3, m->pc);
+    }
+}
+
+ALWAYS int16_t s16(uint32_t x) { return (int16_t)x; }
+ALWAYS uint32_t word_at(const struct machine *m, uint32_t a) { return (uint32_t)m->rom[a] << 8 | m->rom[a + 1]; }
+
+/* MOV with memory, the address known. */
+ALWAYS int fetch_in(struct machine *m, uint32_t ea, uint32_t d, int bits)
+{
+    uint32_t x;
+    if (!load(m, ea, bits, &x))
+        return 0;
+    moved(m, x, bits);
+    put(m, d, x, bits);
+    return 1;
+}
+ALWAYS int send_out(struct machine *m, uint32_t ea, uint32_t d, int bits)
+{
+    uint32_t x = get(m, d, bits);
+    if (!save(m, ea, bits, x))
+        return 0;
+    moved(m, x, bits);
+    return 1;
+}
+ALWAYS int either_way(struct machine *m, uint32_t ea, uint32_t d, int bits, int store, int states)
+{
+    return (store ? send_out(m, ea, d, bits) : fetch_in(m, ea, d, bits)) ? states : 0;
+}
+/* @ER+ and @-ER: a refusal leaves the register as it was. */
+ALWAYS int stepping(struct machine *m, uint32_t n, uint32_t d, int bits, int store, int states)
+{
+    uint32_t old = m->er[n], by = (uint32_t)bits / 8;
+    m->er[n] = store ? old - by : old + by;
+    if (store ? send_out(m, m->er[n], d, bits) : fetch_in(m, old, d, bits))
+        return states;
+    m->er[n] = old;
+    return 0;
+}
+
+/* aa:16 and aa:24 of 6A and 6B; `at` is where the address begins, `prefix` the bytes before 6A or 6B. */
+ALWAYS int absolute(struct machine *m, uint32_t b1, uint32_t prefix, int bits, uint32_t *pc, int more)
+{
+    uint32_t at = m->pc + prefix + 2, left = m->rom_n - at, d = b1 & 15;
+    int store = (int)(b1 >> 7);
+    if ((b1 & 0x50) || (bits == 32 && d > 7))
+        return refuse(m, 3, m->pc);
+    if (left < 2)
+        return refuse(m, 4, m->pc);
+    if (!(b1 & 0x20)) {
+        *pc = at + 2;
+        return either_way(m, (uint32_t)(int32_t)s16(word_at(m, at)), d, bits, store, more + 6);
+    }
+    if (m->rom[at])
+        return refuse(m, 3, m->pc);
+    if (left < 4)
+        return refuse(m, 4, m->pc);
+    *pc = at + 4;
+    return either_way(m, (uint32_t)m->rom[at + 1] << 16 | word_at(m, at + 2), d, bits, store, more + 8);
+}
+ALWAYS int displaced(struct machine *m, uint32_t b1, uint32_t prefix, int bits, uint32_t *pc, int states)
+{
+    uint32_t at = m->pc + prefix + 2;
+    if (at >= m->rom_n)
+        return refuse(m, 4, m->pc);
+    *pc = at + 2;
+    return either_way(m, m->er[b1 >> 4 & 7] + (uint32_t)(int32_t)s16(word_at(m, at)), b1 & 15, bits, (int)(b1 >> 7), states);
+}
+
+/* 0100: MOV.L with memory. */
+static int group_0100(struct machine *m, uint32_t *pc)
+{
+    uint32_t at = m->pc + 2, b0, b1;
+    if (at >= m->rom_n)
+        return refuse(m, 4, m->pc);
+    b0 = m->rom[at];
+    b1 = m->rom[at + 1];
+    if (b0 == 0x6B)
+        return absolute(m, b1, 2, 32, pc, 4);
+    if ((b0 != 0x69 && b0 != 0x6D && b0 != 0x6F) || b1 & 8)
+        return refuse(m, 3, m->pc);
+    *pc = at + 2;
+    if (b0 == 0x69)
+        return either_way(m, m->er[b1 >> 4 & 7], b1, 32, (int)(b1 >> 7), 8);
+    if (b0 == 0x6D)
+        return stepping(m, b1 >> 4 & 7, b1, 32, (int)(b1 >> 7), 10);
+    return displaced(m, b1, 2, 32, pc, 10);
+}
+/* 01F0: OR.L, XOR.L, AND.L. */
+static int group_01f0(struct machine *m, uint32_t *pc)
+{
+    uint32_t at = m->pc + 2, b0, b1;
+    if (at >= m->rom_n)
+        return refuse(m, 4, m->pc);
+    b0 = m->rom[at];
+    b1 = m->rom[at + 1];
+    if (b0 < 0x64 || b0 > 0x66 || b1 & 0x88)
+        return refuse(m, 3, m->pc);
+    *pc = at + 2;
+    return 2 + (b0 == 0x64 ? alu(m, OR, m->er[b1 >> 4], b1, 32)
+                : b0 == 0x65 ? alu(m, XOR, m->er[b1 >> 4], b1, 32) : alu(m, AND, m->er[b1 >> 4], b1, 32));
+}
+
+ALWAYS int seventy(struct machine *m, uint32_t digit, uint32_t s, uint32_t d, int bits)
+{
+    switch (digit) {
+    case 0: return alu(m, MOV, s, d, bits);
+    case 1: return alu(m, ADD, s, d, bits);
+    case 2: return alu(m, CMP, s, d, bits);
+    case 3: return alu(m, SUB, s, d, bits);
+    case 4: return alu(m, OR, s, d, bits);
+    case 5: return alu(m, XOR, s, d, bits);
+    default: return alu(m, AND, s, d, bits);
+    }
+}
+static int group_79(struct machine *m, uint32_t b1, uint32_t *pc)
+{
+    if (b1 >> 4 > 6)
+        return refuse(m, 3, m->pc);
+    if (m->rom_n - m->pc < 4)
+        return refuse(m, 4, m->pc);
+    *pc = m->pc + 4;
+    return 2 + seventy(m, b1 >> 4, word_at(m, m->pc + 2), b1 & 15, 16);
+}
+static int group_7a(struct machine *m, uint32_t b1, uint32_t *pc)
+{
+    if (b1 >> 4 > 6 || b1 & 8)
+        return refuse(m, 3, m->pc);
+    if (m->rom_n - m->pc < 6)
+        return refuse(m, 4, m->pc);
+    *pc = m->pc + 6;
+    return 4 + seventy(m, b1 >> 4, word_at(m, m->pc + 2) << 16 | word_at(m, m->pc + 4), b1 & 7, 32);
+}
+
+ALWAYS int holds(uint32_t cc, uint32_t digit)
+{
+    int c = cc & CF ? 1 : 0, v = cc & VF ? 1 : 0, z = cc & ZF ? 1 : 0, n = cc & NF ? 1 : 0, yes;
+    switch (digit >> 1) {
+    case 0: yes = 1; break;
+    case 1: yes = !(c | z); break;
+    case 2: yes = !c; break;
+    case 3: yes = !z; break;
+    case 4: yes = !v; break;
+    case 5: yes = !n; break;
+    case 6: yes = !(n ^ v); break;
+    default: yes = !(z | (n ^ v)); break;
+    }
+    return digit & 1 ? !yes : yes;
+}
+ALWAYS int call(struct machine *m, uint32_t next, uint32_t target, uint32_t *pc, int states)
+{
+    if (!save(m, m->er[7] - 4, 32, next))
+        return 0;
+    m->er[7] -= 4;
+    *pc = target;
+    return states;
+}
+
+/* 54, 55, 58 to 5F. */
+static int group_5(struct machine *m, uint32_t b0, uint32_t b1, uint32_t *pc)
+{
+    uint32_t at = m->pc, x;
+    int whole = m->rom_n - at >= 4;
+    switch (b0) {
+    case 0x54:
+        if (b1 != 0x70)
+            return refuse(m, 3, at);
+        if (!load(m, m->er[7], 32, &x))
+            return 0;
+        m->er[7] += 4;
+        *pc = x;
+        return 10;
+    case 0x55: return call(m, at + 2, at + 2 + (uint32_t)(int32_t)(int8_t)b1, pc, 8);
+    case 0x58:
+        if (b1 & 15 || !whole)
+            return refuse(m, b1 & 15 ? 3 : 4, at);
+        *pc = at + 4;
+        if (holds(m->cc, b1 >> 4))
+            *pc += (uint32_t)(int32_t)s16(word_at(m, at + 2));
+        return 6;
+    case 0x59: return b1 & 0x8F ? refuse(m, 3, at) : (*pc = m->er[b1 >> 4], 4);
+    case 0x5A: return whole ? (*pc = b1 << 16 | word_at(m, at + 2), 6) : refuse(m, 4, at);
+    case 0x5B: return load(m, b1, 32, pc) ? 10 : 0;
+    case 0x5C:
+        if (b1 || !whole)
+            return refuse(m, b1 ? 3 : 4, at);
+        return call(m, at + 4, at + 4 + (uint32_t)(int32_t)s16(word_at(m, at + 2)), pc, 10);
+    case 0x5D: return b1 & 0x8F ? refuse(m, 3, at) : call(m, at + 2, m->er[b1 >> 4], pc, 8);
+    case 0x5E: return whole ? call(m, at + 4, b1 << 16 | word_at(m, at + 2), pc, 10) : refuse(m, 4, at);
+    case 0x5F: return load(m, b1, 32, &x) ? call(m, at + 2, x, pc, 12) : 0;
+    default: return refuse(m, 3, at);
+    }
+}
+
+/* One instruction: its states, or 0 and a refusal. */
+ALWAYS int step(struct machine *m)
+{
+    uint32_t b0, b1, pc = m->pc + 2, x;
+    int s;
+    if (m->pc >= m->rom_n)
+        return refuse(m, 2, m->pc);
+    b0 = m->rom[m->pc];
+    b1 = m->rom[m->pc + 1];
+    switch (b0) {
+    case 0x00: s = b1 ? refuse(m, 3, m->pc) : 2; break;
+    case 0x01:
+        s = b1 == 0 ? group_0100(m, &pc) : b1 == 0xF0 ? group_01f0(m, &pc) : refuse(m, 3, m->pc);
+        break;
+    case 0x02: s = b1 > 15 ? refuse(m, 3, m->pc) : (put8(m, b1, m->cc), 2); break;
+    case 0x03: s = b1 > 15 ? refuse(m, 3, m->pc) : (m->cc = get8(m, b1), 2); break;
+    case 0x04: m->cc |= b1; s = 2; break;
+    case 0x05: m->cc ^= b1; s = 2; break;
+    case 0x06: m->cc &= b1; s = 2; break;
+    case 0x07: m->cc = b1; s = 2; break;
+    case 0x08: s = alu_regs(m, ADD, b1, 8); break;
+    case 0x09: s = alu_regs(m, ADD, b1, 16); break;
+    case 0x0A: s = b1 < 16 ? step_by(m, b1, 1, 0, 8) : b1 < 128 ? refuse(m, 3, m->pc) : alu_long(m, ADD, b1); break;
+    case 0x0B: s = group_0b(m, b1, 0); break;
+    case 0x0C: s = alu_regs(m, MOV, b1, 8); break;
+    case 0x0D: s = alu_regs(m, MOV, b1, 16); break;
+    case 0x0E: s = alu_regs(m, ADDX, b1, 8); break;
+    case 0x0F: s = b1 < 16 ? adjust_up(m, b1) : b1 < 128 ? refuse(m, 3, m->pc) : alu_long(m, MOV, b1); break;
+    case 0x10: s = shifts(m, 0, b1); break;
+    case 0x11: s = shifts(m, 1, b1); break;
+    case 0x12: s = shifts(m, 2, b1); break;
+    case 0x13: s = shifts(m, 3, b1); break;
+    case 0x14: s = alu_regs(m, OR, b1, 8); break;
+    case 0x15: s = alu_regs(m, XOR, b1, 8); break;
+    case 0x16: s = alu_regs(m, AND, b1, 8); break;
+    case 0x17: s = group_17(m, b1); break;
+    case 0x18: s = alu_regs(m, SUB, b1, 8); break;
+    case 0x19: s = alu_regs(m, SUB, b1, 16); break;
+    case 0x1A: s = b1 < 16 ? step_by(m, b1, 1, 1, 8) : b1 < 128 ? refuse(m, 3, m->pc) : alu_long(m, SUB, b1); break;
+    case 0x1B: s = group_0b(m, b1, 1); break;
+    case 0x1C: s = alu_regs(m, CMP, b1, 8); break;
+    case 0x1D: s = alu_regs(m, CMP, b1, 16); break;
+    case 0x1E: s = alu_regs(m, SUBX, b1, 8); break;
+    case 0x1F: s = b1 < 16 ? adjust_down(m, b1) : b1 < 128 ? refuse(m, 3, m->pc) : alu_long(m, CMP, b1); break;
+    case 0x54: case 0x55: case 0x58: case 0x59: case 0x5A: case 0x5B: case 0x5C: case 0x5D: case 0x5E: case 0x5F:
+        s = group_5(m, b0, b1, &pc);
+        break;
+    case 0x64: s = alu_regs(m, OR, b1, 16); break;
+    case 0x65: s = alu_regs(m, XOR, b1, 16); break;
+    case 0x66: s = alu_regs(m, AND, b1, 16); break;
+    case 0x68: s = either_way(m, m->er[b1 >> 4 & 7], b1 & 15, 8, (int)(b1 >> 7), 4); break;
+    case 0x69: s = either_way(m, m->er[b1 >> 4 & 7], b1 & 15, 16, (int)(b1 >> 7), 4); break;
+    case 0x6A: s = absolute(m, b1, 0, 8, &pc, 0); break;
+    case 0x6B: s = absolute(m, b1, 0, 16, &pc, 0); break;
+    case 0x6C: s = stepping(m, b1 >> 4 & 7, b1 & 15, 8, (int)(b1 >> 7), 6); break;
+    case 0x6D: s = stepping(m, b1 >> 4 & 7, b1 & 15, 16, (int)(b1 >> 7), 6); break;
+    case 0x6E: s = displaced(m, b1, 0, 8, &pc, 6); break;
+    case 0x6F: s = displaced(m, b1, 0, 16, &pc, 6); break;
+    case 0x79: s = group_79(m, b1, &pc); break;
+    case 0x7A: s = group_7a(m, b1, &pc); break;
+    default:
+        x = b0 & 15;
+        switch (b0 >> 4) {
+        case 0x2: s = either_way(m, 0xFFFF00 | b1, x, 8, 0, 4); break;
+        case 0x3: s = either_way(m, 0xFFFF00 | b1, x, 8, 1, 4); break;
+        case 0x4: s = 4; if (holds(m->cc, x)) pc += (uint32_t)(int32_t)(int8_t)b1; break;
+        case 0x8: s = alu(m, ADD, b1, x, 8); break;
+        case 0x9: s = alu(m, ADDX, b1, x, 8); break;
+        case 0xA: s = alu(m, CMP, b1, x, 8); break;
+        case 0xB: s = alu(m, SUBX, b1, x, 8); break;
+        case 0xC: s = alu(m, OR, b1, x, 8); break;
+        case 0xD: s = alu(m, XOR, b1, x, 8); break;
+        case 0xE: s = alu(m, AND, b1, x, 8); break;
+        case 0xF: s = alu(m, MOV, b1, x, 8); break;
+        default: s = refuse(m, 3, m->pc); break;
+        }
+        break;
+    }
+    if (s)
+        m->pc = pc & 0xFFFFFE;
+    return s;
+}
+
+static int taken_in(struct machine *m, uint32_t base, const uint8_t *rom, size_t rom_n, uint8_t *ram, size_t ram_n,
+                    const uint32_t *regs)
+{
+    if (rom_n % 2 || rom_n > 524288 || ram_n % 2 || ram_n > 65536 || base % 2 || base < rom_n
+        || (uint64_t)base + ram_n > 16777216 || regs[8] % 2 || regs[8] >= 16777216 || regs[9] > 255)
+        return refuse(m, 1, 0);
+    for (int i = 0; i < 8; i++)
+        m->er[i] = regs[i];
+    m->pc = regs[8];
+    m->cc = regs[9];
+    m->rom = rom;
+    m->rom_n = (uint32_t)rom_n;
+    m->base = base;
+    m->ram = ram;
+    m->ram_n = (uint32_t)ram_n;
+    return 1;
+}
+static void given_back(const struct machine *m, uint32_t *regs)
+{
+    for (int i = 0; i < 8; i++)
+        regs[i] = m->er[i];
+    regs[8] = m->pc;
+    regs[9] = m->cc;
+}
+
+uint32_t plain_step(uint32_t base, const uint8_t *rom, size_t rom_n, uint8_t *ram, size_t ram_n,
+                    uint32_t *regs, size_t regs_n, uint32_t *answer, size_t answer_n)
+{
+    struct machine m = {0};
+    int s = 0;
+    if (answer_n < 3)
+        return 13;
+    if (regs_n < 10)
+        refuse(&m, 13, 10);
+    else if (taken_in(&m, base, rom, rom_n, ram, ram_n, regs) && (s = step(&m)) != 0)
+        given_back(&m, regs);
+    answer[0] = m.number;
+    answer[1] = m.place;
+    answer[2] = (uint32_t)s;
+    return m.number;
+}
+
+uint32_t plain_run(uint32_t base, const uint8_t *rom, size_t rom_n, uint8_t *ram, size_t ram_n,
+                   uint32_t *regs, size_t regs_n, uint32_t stop, uint32_t budget, uint64_t *answer, size_t answer_n)
+{
+    struct machine m = {0};
+    uint64_t states = 0;
+    uint32_t steps = 0;
+    int ending = H8_REFUSED, s;
+    if (answer_n < 5)
+        return 13;
+    if (regs_n < 10)
+        refuse(&m, 13, 10);
+    else if (budget > 1000000)
+        refuse(&m, 12, 0);
+    else if (taken_in(&m, base, rom, rom_n, ram, ram_n, regs)) {
+        for (;;) {
+            if (m.pc == stop) {
+                ending = H8_STOPPED;
+                break;
+            }
+            if (steps == budget) {
+                ending = H8_SPENT;
+                break;
+            }
+            s = step(&m);
+            if (!s)
+                break;
+            steps++;
+            states += (uint32_t)s;
+        }
+        given_back(&m, regs);
+    }
+    answer[0] = m.number;
+    answer[1] = m.place;
+    answer[2] = steps;
+    answer[3] = states;
+    answer[4] = (uint64_t)ending;
+    return m.number;
+}
+
+/* THE FIGURE. What a listing's line does to a path: goes on, jumps, may do either, ends, or can't be followed. */
+enum { GOES_ON, JUMPS, EITHER, ENDS, STOPS };
+struct line {
+    int kind;
+    uint32_t next, target, states, number;
+};
+
+ALWAYS struct line stops(uint32_t number) { return (struct line){STOPS, 0, 0, 0, number}; }
+ALWAYS struct line on(uint32_t p, uint32_t left, uint32_t length, uint32_t states)
+{
+    return left < length ? stops(4) : (struct line){GOES_ON, p + length, 0, states, 0};
+}
+ALWAYS struct line branch(uint32_t next, uint32_t target, uint32_t digit, uint32_t states)
+{
+    return (struct line){digit == 0 ? JUMPS : digit == 1 ? GOES_ON : EITHER, next, target & 0xFFFFFE, states, 0};
+}
+
+static struct line line_0100(const uint8_t *c, uint32_t p, uint32_t left)
+{
+    if (left < 4)
+        return stops(4);
+    if (c[2] == 0x6B) {
+        if (c[3] & 0x58)
+            return stops(3);
+        if (!(c[3] & 0x20))
+            return on(p, left, 6, 10);
+        return left < 6 ? stops(4) : c[4] ? stops(3) : on(p, left, 8, 12);
+    }
+    if (c[3] & 8)
+        return stops(3);
+    return c[2] == 0x69 ? on(p, left, 4, 8) : c[2] == 0x6D ? on(p, left, 4, 10) : c[2] == 0x6F ? on(p, left, 6, 10) : stops(3);
+}
+static struct line line_5(const uint8_t *c, uint32_t p, uint32_t left)
+{
+    switch (c[0]) {
+    case 0x54: return c[1] == 0x70 ? (struct line){ENDS, 0, 0, 10, 0} : stops(3);
+    case 0x58:
+        if (c[1] & 15 || left < 4)
+            return stops(c[1] & 15 ? 3 : 4);
+        return branch(p + 4, p + 4 + (uint32_t)(int32_t)(int16_t)(c[2] << 8 | c[3]), c[1] >> 4, 6);
+    case 0x5A: return left < 4 ? stops(4) : branch(p, (uint32_t)c[1] << 16 | (uint32_t)c[2] << 8 | c[3], 0, 6);
+    case 0x59: case 0x5D: return stops(c[1] & 0x8F ? 3 : 9);
+    case 0x5C: return stops(c[1] ? 3 : left < 4 ? 4 : 9);
+    case 0x5E: return stops(left < 4 ? 4 : 9);
+    case 0x55: case 0x5B: case 0x5F: return stops(9);
+    default: return stops(3);
+    }
+}
+
+/* Second bytes that are codes, by their upper digit, a bit each: with a lower digit 0 to F, and with 0 to 7 only. */
+struct digits { uint16_t any, low; };
+static const struct digits in_0a = {0x0001, 0xFF00}, in_0b = {0x2020, 0x8381}, in_10 = {0x0303, 0x0808}, in_17 = {0x2323, 0x8888};
+ALWAYS struct line among(struct digits s, uint32_t p, uint32_t left, uint32_t b1)
+{
+    return s.any >> (b1 >> 4) & 1 || (s.low >> (b1 >> 4) & 1 && !(b1 & 8)) ? on(p, left, 2, 2) : stops(3);
+}
+
+ALWAYS struct line look(const uint8_t *rom, uint32_t rom_n, uint32_t p)
+{
+    const uint8_t *c = rom + p;
+    uint32_t left = rom_n - p, b1 = c[1];
+    switch (c[0]) {
+    case 0x00: return b1 ? stops(3) : on(p, left, 2, 2);
+    case 0x01:
+        if (b1 == 0)
+            return line_0100(c, p, left);
+        if (b1 != 0xF0 || left < 4)
+            return stops(b1 == 0xF0 ? 4 : 3);
+        return c[2] < 0x64 || c[2] > 0x66 || c[3] & 0x88 ? stops(3) : on(p, left, 4, 4);
+    case 0x02: case 0x03: return b1 > 15 ? stops(3) : on(p, left, 2, 2);
+    case 0x0A: case 0x0F: case 0x1A: case 0x1F: return among(in_0a, p, left, b1);
+    case 0x0B: case 0x1B: return among(in_0b, p, left, b1);
+    case 0x10: case 0x11: case 0x12: case 0x13: return among(in_10, p, left, b1);
+    case 0x17: return among(in_17, p, left, b1);
+    case 0x04: case 0x05: case 0x06: case 0x07: case 0x08: case 0x09: case 0x0C: case 0x0D: case 0x0E:
+    case 0x14: case 0x15: case 0x16: case 0x18: case 0x19: case 0x1C: case 0x1D: case 0x1E:
+    case 0x64: case 0x65: case 0x66: return on(p, left, 2, 2);
+    case 0x68: case 0x69: return on(p, left, 2, 4);
+    case 0x6A: case 0x6B:
+        if (b1 & 0x50)
+            return stops(3);
+        if (!(b1 & 0x20))
+            return on(p, left, 4, 6);
+        return left < 4 ? stops(4) : c[2] ? stops(3) : on(p, left, 6, 8);
+    case 0x6C: case 0x6D: return on(p, left, 2, 6);
+    case 0x6E: case 0x6F: return on(p, left, 4, 6);
+    case 0x79: return b1 >> 4 > 6 ? stops(3) : on(p, left, 4, 4);
+    case 0x7A: return b1 >> 4 > 6 || b1 & 8 ? stops(3) : on(p, left, 6, 6);
+    default: break;
+    }
+    switch (c[0] >> 4) {
+    case 2: case 3: return on(p, left, 2, 4);
+    case 4: return branch(p + 2, p + 2 + (uint32_t)(int32_t)(int8_t)b1, c[0] & 15, 4);
+    case 5: return line_5(c, p, left);
+    case 6: case 7: return stops(3);
+    default: return c[0] < 0x80 ? stops(3) : on(p, left, 2, 2);
+    }
+}
+
+struct figures { uint64_t figure, low; };
+ALWAYS struct figures row_at(const uint64_t *table, uint32_t rom_n, uint32_t q)
+{
+    return q < rom_n ? (struct figures){table[q], table[q + 1]} : (struct figures){0, q};
+}
+ALWAYS struct figures through(struct figures a, struct figures b, uint32_t states)
+{
+    uint64_t low = a.low < b.low ? a.low : b.low, most = a.figure > b.figure ? a.figure : b.figure;
+    return (struct figures){low == H8_NONE ? states + most : 0, low};
+}
+ALWAYS struct figures reckon(const uint64_t *table, uint32_t rom_n, uint32_t p, struct line l)
+{
+    uint32_t a = l.kind == JUMPS ? l.target : l.next, b = l.kind == GOES_ON ? l.next : l.target;
+    if (l.kind == ENDS)
+        return (struct figures){l.states, H8_NONE};
+    if (l.kind == STOPS || a <= p || b <= p)
+        return (struct figures){0, p};
+    return through(row_at(table, rom_n, a), row_at(table, rom_n, b), l.states);
+}
+/* Why a forbidden place is forbidden. */
+static uint32_t why(const uint8_t *rom, uint32_t rom_n, uint64_t place)
+{
+    struct line l;
+    if (place >= rom_n || place % 2)
+        return 2;
+    l = look(rom, rom_n, (uint32_t)place);
+    return l.kind == STOPS ? l.number : 10;
+}
+
+static uint32_t told(uint64_t *answer, uint64_t number, uint64_t place, uint64_t third)
+{
+    answer[0] = number;
+    answer[1] = place;
+    answer[2] = third;
+    return (uint32_t)number;
+}
+
+/* 13 for the answer, 1, 8, 13 for the table. */
+static uint32_t bad_lent(size_t rom_n, uint32_t entry, size_t table_n, uint64_t *answer, size_t answer_n)
+{
+    if (answer_n < 3)
+        return 13;
+    if (rom_n % 2 || rom_n > 524288)
+        return told(answer, 1, 0, 0);
+    if (entry % 2 || entry >= rom_n)
+        return told(answer, 8, entry, 0);
+    return table_n < rom_n ? told(answer, 13, rom_n, 0) : 0;
+}
+
+uint32_t plain_figure(const uint8_t *rom, size_t rom_n, uint32_t entry, uint64_t *table, size_t table_n,
+                      uint64_t *answer, size_t answer_n)
+{
+    uint32_t n = (uint32_t)rom_n, bad = bad_lent(rom_n, entry, table_n, answer, answer_n);
+    if (bad)
+        return bad;
+    for (uint32_t p = n; p > 0;) {
+        p -= 2;
+        struct figures r = reckon(table, n, p, look(rom, n, p));
+        table[p] = r.figure;
+        table[p + 1] = r.low;
+    }
+    if (table[entry + 1] != H8_NONE)
+        return told(answer, why(rom, n, table[entry + 1]), table[entry + 1], 0);
+    return told(answer, 0, 0, table[entry]);
+}
+
+uint32_t plain_way(const uint8_t *rom, size_t rom_n, const uint64_t *table, size_t table_n, uint32_t place,
+                   uint64_t *answer, size_t answer_n)
+{
+    uint32_t n = (uint32_t)rom_n, bad = bad_lent(rom_n, place, table_n, answer, answer_n);
+    struct line l;
+    if (bad)
+        return bad;
+    if (table[place + 1] != H8_NONE)
+        return told(answer, why(rom, n, table[place + 1]), table[place + 1], 0);
+    l = look(rom, n, place);
+    if (l.kind == ENDS)
+        return told(answer, 0, 0, H8_NONE);
+    if (l.kind == EITHER)
+        return told(answer, 0, 0, row_at(table, n, l.target).figure > row_at(table, n, l.next).figure ? l.target : l.next);
+    return told(answer, 0, 0, l.kind == JUMPS ? l.target : l.next);
+}

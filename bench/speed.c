@@ -1,0 +1,151 @@
+/* The library's speed against plain C that holds the same set and makes the same checks (plain.c), in one run: each pair of
+   measurements is taken one right behind the other, and the ratio is the median of the pairs'. Time is the process's own.
+   speed SAMPLES */
+#include "plain.h"
+#include <stdio.h>
+#include <stdlib.h>
+#include <string.h>
+#include <time.h>
+
+enum { PAIRS = 15, ROM_MAX = 524288, RAM_N = 4096 };
+
+typedef uint32_t run_function(uint32_t, const uint8_t *, size_t, uint8_t *, size_t, uint32_t *, size_t, uint32_t, uint32_t, uint64_t *, size_t);
+typedef uint32_t step_function(uint32_t, const uint8_t *, size_t, uint8_t *, size_t, uint32_t *, size_t, uint32_t *, size_t);
+typedef uint32_t figure_function(const uint8_t *, size_t, uint32_t, uint64_t *, size_t, uint64_t *, size_t);
+
+static uint8_t rom[ROM_MAX], ram[RAM_N];
+static size_t rom_n;
+static uint64_t table[ROM_MAX], sum;        /* sum of what was answered, so that both are seen to do the same */
+
+static double now(void)
+{
+    struct timespec t;
+    clock_gettime(CLOCK_PROCESS_CPUTIME_ID, &t);
+    return (double)t.tv_sec + 1e-9 * (double)t.tv_nsec;
+}
+
+static void load(const char *folder, const char *name)
+{
+    char path[500];
+    snprintf(path, sizeof path, "%s/%s.bin", folder, name);
+    FILE *f = fopen(path, "rb");
+    if (!f) {
+        perror(path);
+        exit(2);
+    }
+    rom_n = fread(rom, 1, sizeof rom, f);
+    fclose(f);
+}
+
+/* Runs again and again from `pc` until so many steps are done. Answers the steps. */
+static uint64_t runs(run_function *f, uint32_t pc, uint32_t stop, uint64_t steps)
+{
+    uint64_t done = 0, answer[5];
+    sum = 0;
+    while (done < steps) {
+        uint32_t regs[10] = {0};
+        memset(ram, 0, sizeof ram);
+        regs[H8_PC] = pc;
+        f(0xFFEF10, rom, rom_n, ram, RAM_N, regs, 10, stop, H8_BUDGET_MAX, answer, 5);
+        done += answer[2];
+        sum = sum * 31 + answer[3] + regs[0] + regs[9] + ram[100] + answer[4];
+    }
+    return done;
+}
+
+static uint64_t steps_alone(step_function *f, uint32_t pc, uint64_t steps)
+{
+    uint32_t regs[10] = {0}, answer[3];
+    sum = 0;
+    memset(ram, 0, sizeof ram);
+    regs[H8_PC] = pc;
+    for (uint64_t i = 0; i < steps; i++) {
+        f(0xFFEF10, rom, rom_n, ram, RAM_N, regs, 10, answer, 3);
+        sum = sum * 31 + answer[2] + regs[8];
+    }
+    return steps;
+}
+
+static uint64_t figures(figure_function *f, int times)
+{
+    uint64_t answer[3];
+    sum = 0;
+    for (int i = 0; i < times; i++) {
+        f(rom, rom_n, 0, table, ROM_MAX, answer, 3);
+        sum = sum * 31 + answer[2] + table[1000];
+    }
+    return (uint64_t)times * rom_n / 2;
+}
+
+/* What is measured: `which` 0 is the library, 1 plain C. Answers how many units were done. */
+struct work { const char *what, *unit; uint64_t (*work)(int which); };
+static uint64_t sheet(int w) { return runs(w ? plain_run : h8_run, 0x200, 0xFFFFFFFF, 4000000); }
+static uint64_t decimal(int w) { return runs(w ? plain_run : h8_run, 0, 0x24, 4000000); }
+static uint64_t copy(int w) { return runs(w ? plain_run : h8_run, 0, 0x22, 4000000); }
+static uint64_t one_by_one(int w) { return steps_alone(w ? plain_step : h8_step, 0, 2000000); }
+static uint64_t branches(int w) { return figures(w ? plain_figure : h8_figure, 10); }
+
+static int ascending(const void *a, const void *b)
+{
+    double x = *(const double *)a, y = *(const double *)b;
+    return x < y ? -1 : x > y;
+}
+
+static double measure(uint64_t (*work)(int), int which, uint64_t *answered)
+{
+    double from = now();
+    uint64_t units = work(which);
+    double took = now() - from;
+    *answered = sum;
+    return took * 1e9 / (double)units;
+}
+
+static int compare(const struct work *w)
+{
+    double ratio[PAIRS], library[PAIRS], plain[PAIRS];
+    uint64_t a, b;
+    for (int i = 0; i < PAIRS; i++) {
+        library[i] = measure(w->work, 0, &a);
+        plain[i] = measure(w->work, 1, &b);
+        ratio[i] = library[i] / plain[i];
+        if (a != b) {
+            printf("%s: the two answer differently\n", w->what);
+            return 1;
+        }
+    }
+    qsort(ratio, PAIRS, sizeof *ratio, ascending);
+    qsort(library, PAIRS, sizeof *library, ascending);
+    qsort(plain, PAIRS, sizeof *plain, ascending);
+    printf("| %-45s | %8.2f | %8.2f | %-5s | %5.2f | %5.2f to %5.2f |\n", w->what, library[PAIRS / 2], plain[PAIRS / 2], w->unit,
+           ratio[PAIRS / 2], ratio[1], ratio[PAIRS - 2]);
+    fflush(stdout);
+    return 0;
+}
+
+int main(int argc, char **argv)
+{
+    static const struct { const char *sample; struct work work; } all[] = {
+        {"sheet", {"run, sheet counter in a loop", "step", sheet}},
+        {"decimal", {"run, decimal counter up and down", "step", decimal}},
+        {"copy", {"run, copy loop", "step", copy}},
+        {"decimal", {"step, one call each, decimal counter", "step", one_by_one}},
+        {NULL, {"figure, 524,288 bytes of conditional branches", "place", branches}},
+    };
+    int failed = 0;
+    if (argc != 2) {
+        fprintf(stderr, "use: speed SAMPLES\n");
+        return 2;
+    }
+    printf("| %-45s | %8s | %8s | %-5s | %5s | %-14s |\n|---|---|---|---|---|---|\n", "what", "library", "plain C", "ns a", "ratio", "of the pairs");
+    for (size_t i = 0; i < sizeof all / sizeof *all; i++) {
+        if (all[i].sample) {
+            load(argv[1], all[i].sample);
+        } else {
+            rom_n = ROM_MAX;
+            for (size_t k = 0; k < ROM_MAX; k += 2)
+                rom[k] = k < ROM_MAX - 4 ? 0x47 : 0x54, rom[k + 1] = k < ROM_MAX - 4 ? 0x02 : 0x70;
+        }
+        failed |= compare(&all[i].work);
+    }
+    return failed;
+}

@@ -1,0 +1,257 @@
+/* Every code against the independent decoder, and encode as the inverse of decode. */
+#include "bench.h"
+#include <string.h>
+
+static void show_bytes(const uint8_t *b, size_t n)
+{
+    static const char hex[] = "0123456789ABCDEF";
+    char text[40] = "none";
+    for (size_t i = 0; i < n && i < 8; i++) {
+        text[3 * i] = hex[b[i] >> 4];
+        text[3 * i + 1] = hex[b[i] & 15];
+        text[3 * i + 2] = ' ';
+        text[3 * i + 3] = 0;
+    }
+    say("%zu bytes: %s", n, text);
+}
+
+static void show_fields(const char *who, uint32_t number, const uint32_t *f)
+{
+    if (number)
+        say("%-8s refusal %u", who, number);
+    else
+        say("%-8s kind %u which %u width %u form %u other %u value %X reg %u length %u states %u", who, f[0], f[1], f[2], f[3],
+            f[4], f[5], f[6], f[7], f[8]);
+}
+
+static void differ(const uint8_t *b, size_t n, int wanted, const struct decoded *d, uint32_t got, const uint32_t *fields)
+{
+    fail("decode differs: %s", wanted == 0 ? forms[d->form].name : wanted == 3 ? "unknown code" : "cut short");
+    show_bytes(b, n);
+    show_fields("library", got, fields);
+    show_fields("pattern", (uint32_t)wanted, d->fields);
+}
+
+/* One string of bytes. `b` may be lent memory. On a refusal nothing is written. */
+static int compare_decode(const uint8_t *b, size_t n, uint32_t *fields)
+{
+    struct decoded d;
+    uint32_t got, mark = (uint32_t)0x5EED0000 | (uint32_t)n;
+    int wanted = decode(b, n, &d);
+    fields[0] = mark;
+    fields[8] = mark;
+    got = h8_decode(b, n, fields, H8_FIELDS);
+    int same = got == (uint32_t)wanted;
+    if (same)
+        same = wanted ? fields[0] == mark && fields[8] == mark : !memcmp(fields, d.fields, sizeof d.fields);
+    if (!same)
+        differ(b, n, wanted, &d, got, fields);
+    return wanted;
+}
+
+/* encode gives the bytes back, and leaves the rest. */
+static void compare_encode(const uint8_t *b, uint32_t *fields)
+{
+    uint32_t length = fields[H8_LENGTH], *answer = lend(&answer_lender, 12);
+    uint8_t *out = lend(&out_lender, 9);
+    memset(out, 0x5A, 9);
+    fields[H8_LENGTH] ^= (uint32_t)any();           /* not looked at */
+    fields[H8_STATES] ^= (uint32_t)any();
+    uint32_t got = h8_encode(fields, H8_FIELDS, out, 9, answer, 3);
+    int rest = 1;
+    for (uint32_t i = length; i < 9; i++)
+        rest &= out[i] == 0x5A;
+    if (got || answer[0] || answer[1] || answer[2] != length || memcmp(out, b, length) || !rest) {
+        fail("encode is not the inverse of decode");
+        show_bytes(b, length);
+        show_fields("fields", 0, fields);
+        say("encode answers %u %u %u", answer[0], answer[1], answer[2]);
+        show_bytes(out, 8);
+    }
+}
+
+/* All strings of 0, 1 and 2 bytes; all of 3 bytes where two ask for more. */
+static void short_strings(uint32_t *fields)
+{
+    uint8_t *b = lend(&rom_lender, 0);
+    compare_decode(b, 0, fields);
+    for (unsigned x = 0; x < 256; x++) {
+        b = lend(&rom_lender, 1);
+        b[0] = (uint8_t)x;
+        compare_decode(b, 1, fields);
+    }
+    count(257);
+    for (unsigned w = 0; w < 65536 && !failing(); w++) {
+        b = lend(&rom_lender, 2);
+        b[0] = (uint8_t)(w >> 8);
+        b[1] = (uint8_t)w;
+        int a = compare_decode(b, 2, fields);
+        count(1);
+        if (a == 0)
+            compare_encode(b, fields);
+        for (unsigned x = 0; x < 256 && a == 4; x++) {
+            b = lend(&rom_lender, 3);
+            b[0] = (uint8_t)(w >> 8);
+            b[1] = (uint8_t)w;
+            b[2] = (uint8_t)x;
+            compare_decode(b, 3, fields);
+            count(1);
+        }
+    }
+}
+
+/* What follows two words that ask for more: cuts at 5, 6 and 7 bytes, and whole. */
+static void longer_strings(const uint8_t *four, uint32_t *fields)
+{
+    uint8_t b[8];
+    memcpy(b, four, 4);
+    uint64_t tail = any();
+    if (tail & 3)
+        tail &= ~(uint64_t)0xFF00;                  /* the 00 before aa:24 */
+    for (int i = 0; i < 4; i++)
+        b[4 + i] = (uint8_t)(tail >> (8 + 8 * i));
+    for (size_t n = 5; n <= 8; n++)
+        if (compare_decode(b, n, fields) == 0 && n % 2 == 0)
+            compare_encode(b, fields);
+    count(4);
+}
+
+/* All first words with every second word where the first asks for more. */
+static void all_words(uint32_t *fields)
+{
+    struct decoded d;
+    uint8_t b[4];
+    for (unsigned w = 0; w < 65536 && !failing(); w++) {
+        b[0] = (uint8_t)(w >> 8);
+        b[1] = (uint8_t)w;
+        if (decode(b, 2, &d) != 4)
+            continue;
+        for (unsigned x = 0; x < 65536 && !failing(); x++) {
+            b[2] = (uint8_t)(x >> 8);
+            b[3] = (uint8_t)x;
+            int a = compare_decode(b, 4, fields);
+            if (a == 0 && ((x * 0x9E3779B1u) >> 28 == 0 || x + 2 < 4))
+                compare_encode(b, fields);
+            if (a == 4 && ((x * 0x9E3779B1u) >> 29 == 0 || x < 0x100))
+                longer_strings(b, fields);
+        }
+        count(65536);
+    }
+}
+
+/* Strings of 0 to 8 bytes and more made of codes and near misses, lent so that nothing past them may be read. */
+static void mixed_strings(uint32_t *fields)
+{
+    for (int k = 0; k < 500000 && !failing(); k++) {
+        uint8_t code[8], *b;
+        size_t n = below(12);
+        uint64_t tail = any();
+        build((int)below(FORMS), (uint32_t)any(), edge32(), (uint32_t)any(), code);
+        for (int i = 2 + 2 * (int)below(4); i < 8; i++)
+            code[i] = (uint8_t)(tail >> 8 * i);
+        if (k % 4 == 0)
+            code[below(8)] ^= (uint8_t)(1u << below(8));
+        b = lend(&rom_lender, n);
+        for (size_t i = 0; i < n; i++)
+            b[i] = i < 8 ? code[i] : (uint8_t)tail;
+        if (compare_decode(b, n, fields) == 0)
+            compare_encode(b, fields);
+        count(1);
+    }
+}
+
+/* Each form whole and at each cut, with digits and values at their ends. */
+static void each_form_cut(uint32_t *fields)
+{
+    for (int f = 0; f < FORMS && !failing(); f++)
+        for (int k = 0; k < 64; k++) {
+            uint8_t code[8];
+            int whole = build(f, k % 3 ? (uint32_t)any() : 0 - (uint32_t)(k & 1), k < 8 ? 0 - (uint32_t)(k & 1) : edge32(),
+                              (uint32_t)any(), code);
+            for (size_t n = 0; n <= 8; n++) {
+                uint8_t *b = lend(&rom_lender, n);
+                memcpy(b, code, n);
+                int a = compare_decode(b, n, fields);
+                if ((n < (size_t)whole ? 4 : 0) != a)
+                    fail("the reference decoder errs: %s", forms[f].name);
+                count(1);
+            }
+        }
+}
+
+void test_codes(void)
+{
+    uint32_t *fields = lend(&regs_lender, 4 * H8_FIELDS);
+    begin("decode: every string of up to 2 bytes, and of 3 where 2 ask for more");
+    short_strings(fields);
+    end("strings");
+    begin("decode: all first words with every second word where the first asks for more");
+    all_words(fields);
+    end("strings");
+    begin("decode: each form at every cut from 0 to 8 bytes");
+    each_form_cut(fields);
+    end("strings");
+    begin("decode: codes, near misses and tails, 0 to 11 bytes");
+    mixed_strings(fields);
+    end("strings");
+}
+
+/* ENCODE of any numbers: exactly the fields of some form are taken, all else is 11; a short `out` is 13 and stays. */
+static void compare_fields(const uint32_t *wanted_fields, size_t out_n)
+{
+    uint32_t *fields = lend(&regs_lender, 4 * H8_FIELDS), *answer = lend(&answer_lender, 12);
+    uint8_t *out = lend(&out_lender, out_n), code[8];
+    memcpy(fields, wanted_fields, 4 * H8_FIELDS);
+    memset(out, 0x5A, out_n);
+    int form = form_of(fields), length = 0, written = 1;
+    if (form >= 0)
+        length = build(form, fields[H8_OTHER], fields[H8_VALUE], fields[H8_REG], code);
+    uint32_t number = form < 0 ? 11 : (size_t)length > out_n ? 13 : 0, place = number == 13 ? (uint32_t)length : 0;
+    uint32_t got = h8_encode(fields, H8_FIELDS, out, out_n, answer, 3);
+    for (size_t i = 0; i < out_n; i++)
+        written &= out[i] == (number == 0 && i < (size_t)length ? code[i] : 0x5A);
+    if (got != number || answer[0] != number || answer[1] != place || answer[2] != (number ? 0 : (uint32_t)length) || !written
+        || memcmp(fields, wanted_fields, 4 * H8_FIELDS)) {
+        fail("encode differs: %s, out of %zu bytes", form < 0 ? "no form" : forms[form].name, out_n);
+        show_fields("fields", 0, wanted_fields);
+        say("library answers %u: %u %u %u; wanted %u %u %d", got, answer[0], answer[1], answer[2], number, place, number ? 0 : length);
+        show_bytes(out, out_n);
+    }
+    count(1);
+}
+
+/* Every choice, with registers and values at and past their ends. */
+static void all_choices(void)
+{
+    static const uint32_t digits[] = {0, 7, 8, 15, 16, 0xFFFFFFFF};
+    static const uint32_t values[] = {0, 1, 0xFF, 0x100, 0xFFFF, 0x10000, 0xFFFFFF, 0x1000000, 0xFFFFFFFF};
+    for (uint32_t k = 0; k < 17 * 17 * 4 * 7 && !failing(); k++)
+        for (uint32_t v = 0; v < 6 * 9 * 6; v++) {
+            uint32_t f[H8_FIELDS] = {k % 17, k / 17 % 17, k / 289 % 4, k / 1156, digits[v % 6], values[v / 6 % 9], digits[v / 54], 2, 2};
+            compare_fields(f, 8);
+        }
+}
+
+/* Fields of real codes, some with one number made wrong, and `out` of every length. */
+static void changed_fields(void)
+{
+    for (int k = 0; k < 400000 && !failing(); k++) {
+        struct decoded d;
+        uint8_t code[8];
+        int n = build((int)below(FORMS), (uint32_t)any(), edge32(), (uint32_t)any(), code);
+        decode(code, (size_t)n, &d);
+        if (k & 1)
+            d.fields[below(7)] = k & 2 ? below(20) : edge32();
+        compare_fields(d.fields, below(10));
+    }
+}
+
+void test_encode(void)
+{
+    begin("encode: every kind and choice with registers and values at and past their ends");
+    all_choices();
+    end("instructions");
+    begin("encode: fields of codes, some made wrong, into 0 to 9 bytes");
+    changed_fields();
+    end("instructions");
+}

@@ -1,0 +1,378 @@
+/* The figure against an enumeration of every path, the longest way, and runs held against the figure. */
+#include "bench.h"
+#include <inttypes.h>
+#include <string.h>
+
+typedef unsigned long long ull;
+enum { MANY = 100000, WORDS = 24 };
+
+/* A walk along every path, on its own: no table, nothing remembered. */
+struct walk {
+    const uint8_t *rom;
+    uint32_t rom_n;
+    uint64_t most, paths;
+    uint32_t lowest;
+};
+
+/* What a place is forbidden for, or 0; and where paths go from it. */
+static uint32_t ways_from(const uint8_t *rom, uint32_t rom_n, uint32_t p, struct decoded *d, uint32_t to[2], int *ways)
+{
+    *ways = 0;
+    if (p >= rom_n)
+        return 2;
+    int answer = decode(rom + p, rom_n - p, d);
+    if (answer)
+        return (uint32_t)answer;
+    const uint32_t *f = d->fields;
+    uint32_t next = p + f[H8_LENGTH], target;
+    switch (f[H8_KIND]) {
+    case H8_RTS: return 0;
+    case H8_BSR: case H8_JSR: return 9;
+    case H8_JMP:
+        if (f[H8_FORM] != H8_DIRECT)
+            return 9;
+        to[(*ways)++] = f[H8_VALUE] & 0xFFFFFE;
+        break;
+    case H8_BCC:
+        target = next + (uint32_t)(f[H8_FORM] == H8_NEAR ? (int8_t)f[H8_VALUE] : (int16_t)f[H8_VALUE]);
+        if (f[H8_WHICH] != 0)
+            to[(*ways)++] = next;
+        if (f[H8_WHICH] != 1)
+            to[(*ways)++] = target & 0xFFFFFE;
+        break;
+    default: to[(*ways)++] = next; break;
+    }
+    for (int i = 0; i < *ways; i++)
+        if (to[i] <= p)
+            return 10;
+    return 0;
+}
+
+static void walk(struct walk *w, uint32_t p, uint64_t total)
+{
+    struct decoded d;
+    uint32_t to[2];
+    int ways;
+    if (w->paths > MANY)
+        return;
+    if (ways_from(w->rom, w->rom_n, p, &d, to, &ways)) {
+        w->paths++;
+        if (p < w->lowest)
+            w->lowest = p;
+        return;
+    }
+    total += d.fields[H8_STATES];
+    if (ways == 0) {
+        w->paths++;
+        if (total > w->most)
+            w->most = total;
+    }
+    for (int i = 0; i < ways; i++)
+        walk(w, to[i], total);
+}
+
+/* One instruction of a small listing at `at` of `n`. */
+static void some_line(uint8_t code[8], uint32_t at, uint32_t n, uint32_t branches, uint32_t trouble)
+{
+    uint32_t up = 2 * below((n - at) / 2 + 1) + (below(8) == 0);
+    static const uint8_t forbidden[][4] = {{0x55, 0x04}, {0x59, 0x10}, {0x5B, 0x20}, {0x5C, 0x00, 0, 4}, {0x5D, 0x20}, {0x5E, 0, 0, 0},
+                                           {0x5F, 0x30}, {0x54, 0x71}, {0x01, 0x02}, {0x46, 0xFC}, {0x58, 0x20, 0xFF, 0xF0}, {0x5A, 0, 0, 0}};
+    memset(code, 0, 8);
+    if (below(100) < trouble)
+        memcpy(code, forbidden[below(12)], 4);
+    else if (below(100) < branches)
+        code[0] = (uint8_t)(0x40 | below(16)), code[1] = (uint8_t)(below(4) ? below(9) : up);
+    else if (below(100) < branches / 4)
+        code[0] = 0x58, code[1] = (uint8_t)(below(16) << 4), code[3] = (uint8_t)up;
+    else if (below(12) == 0)
+        code[0] = 0x5A, code[3] = (uint8_t)(at + 4 + up);
+    else if (below(8) == 0)
+        code[0] = 0x54, code[1] = 0x70;
+    else if (below(2))
+        code[0] = 0x0B, code[1] = 0x50;
+    else
+        build((int)below(136), (uint32_t)any(), (uint32_t)any(), (uint32_t)any(), code);
+}
+
+/* A small listing: plain instructions, branches mostly upward and short, returns, and in some something forbidden. */
+static uint32_t make_listing(uint8_t *rom)
+{
+    uint32_t n = 2 * (1 + below(WORDS)), at = 0, trouble = below(2) ? 0 : below(12), branches = below(3) ? 30 : 90;
+    while (at < n) {
+        struct decoded d;
+        uint8_t code[8];
+        some_line(code, at, n, branches, trouble);
+        uint32_t length = decode(code, 8, &d) ? 2 : d.fields[H8_LENGTH];
+        for (uint32_t i = 0; i < length && at < n; i++)
+            rom[at++] = code[i];
+    }
+    if (below(8)) {
+        rom[n - 2] = 0x54;
+        rom[n - 1] = 0x70;
+    }
+    return n;
+}
+
+static void show_listing(const uint8_t *rom, uint32_t n)
+{
+    for (uint32_t p = 0; p < n;) {
+        struct decoded d;
+        show_code(rom, n, p);
+        p += decode(rom + p, n - p, &d) ? 2 : d.fields[H8_LENGTH];
+    }
+}
+
+static uint64_t answers[14], most_paths;
+
+/* The table's row and the answer for one entry. */
+static void compare_entry(const uint8_t *rom, uint32_t n, uint32_t entry, const uint64_t *table, const uint64_t *answer, uint32_t got)
+{
+    struct walk w = {rom, n, 0, 0, H8_NONE};
+    struct decoded d;
+    uint32_t to[2], number;
+    int ways;
+    walk(&w, entry, 0);
+    number = w.lowest == H8_NONE ? 0 : ways_from(rom, n, w.lowest, &d, to, &ways);
+    uint64_t figure = number ? 0 : w.most, place = number ? w.lowest : 0;
+    answers[number]++;
+    if (w.paths > most_paths)
+        most_paths = w.paths;
+    if (got != number || answer[0] != number || answer[1] != place || answer[2] != figure || table[entry] != figure
+        || table[entry + 1] != w.lowest) {
+        fail("figure differs from the enumeration of %llu paths, entry %X", (ull)w.paths, entry);
+        say("library: number %llu place %llX figure %llu; row %llu %llX", (ull)answer[0], (ull)answer[1], (ull)answer[2],
+            (ull)table[entry], (ull)table[entry + 1]);
+        say("paths:   number %u place %llX figure %llu", number, (ull)place, (ull)figure);
+        show_listing(rom, n);
+    }
+}
+
+static int too_many(const uint8_t *rom, uint32_t n)
+{
+    struct walk w = {rom, n, 0, 0, H8_NONE};
+    for (uint32_t p = 0; p < n && w.paths <= MANY; p += 2)
+        walk(&w, p, 0);
+    return w.paths > MANY;
+}
+
+/* h8_way from every place: upward, along the listing, and the states add up to the figure. */
+static void follow(const uint8_t *rom, uint32_t n, uint32_t entry, const uint64_t *table)
+{
+    uint64_t *answer = lend(&answer_lender, 24), total = 0, at = entry;
+    struct decoded d;
+    uint32_t to[2];
+    int ways;
+    for (;;) {
+        uint32_t got = h8_way(rom, n, table, n, (uint32_t)at, answer, 3);
+        uint32_t forbidden = ways_from(rom, n, (uint32_t)at, &d, to, &ways);
+        if (table[at + 1] != H8_NONE) {
+            uint32_t why = ways_from(rom, n, (uint32_t)table[at + 1], &d, to, &ways);
+            if (got != why || answer[0] != why || answer[1] != table[at + 1] || answer[2])
+                fail("way from a refused place %llX answers %llu at %llX", (ull)at, (ull)answer[0], (ull)answer[1]);
+            return;
+        }
+        total += d.fields[H8_STATES];
+        if (got || answer[0] || answer[1] || forbidden)
+            return fail("way from %llX answers %llu at %llX", (ull)at, (ull)answer[0], (ull)answer[1]);
+        if (ways == 0)
+            break;
+        uint64_t best = ways == 2 && table[to[1]] > table[to[0]] ? to[1] : to[0];
+        if (answer[2] != best)
+            return fail("way from %llX goes to %llX, wanted %llX", (ull)at, (ull)answer[2], (ull)best);
+        at = best;
+    }
+    if (answer[2] != H8_NONE || total != table[entry])
+        fail("the way from %X ends with %llX after %llu states, figure %llu", entry, (ull)answer[2], (ull)total, (ull)table[entry]);
+}
+
+static void compare_listing(void)
+{
+    static uint8_t code[2 * WORDS + 8];
+    uint32_t n = make_listing(code);
+    if (too_many(code, n))
+        return;
+    uint8_t *rom = lend(&rom_lender, n);
+    uint64_t *table = lend(&out_lender, 8 * (n + 2));
+    memcpy(rom, code, n);
+    for (uint32_t entry = 0; entry < n && !failing(); entry += 2) {
+        uint64_t *answer = lend(&answer_lender, 24);
+        memset(table, 0xEE, 8 * (n + 2));
+        uint32_t got = h8_figure(rom, n, entry, table, n + 2, answer, 3);
+        compare_entry(rom, n, entry, table, answer, got);
+        if (table[n] != 0xEEEEEEEEEEEEEEEE || table[n + 1] != table[n] || !guards_stand(&out_lender))
+            fail("figure wrote past its table");
+        if (memcmp(rom, code, n))
+            fail("figure changed the code");
+        count(1);
+    }
+    for (uint32_t entry = 0; entry < n && !failing(); entry += 2)
+        follow(rom, n, entry, table);
+}
+
+/* RUNS AGAINST FIGURES: step until the first RTS completes or a step is refused. */
+static void run_from(const uint8_t *rom, uint32_t n, uint32_t entry, uint64_t figure)
+{
+    uint8_t *ram = lend(&ram_lender, 32);
+    uint32_t *regs = lend(&regs_lender, 40), *answer = lend(&answer_lender, 12), base = 0xFFFF00 + 2 * below(100);
+    uint64_t states = 0, steps = 0;
+    struct decoded d;
+    for (int i = 0; i < 8; i++)
+        regs[i] = below(2) ? base + below(32) : edge32();
+    for (int i = 0; i < 32; i++)
+        ram[i] = (uint8_t)any();
+    regs[7] = base + (below(8) ? 8 + below(16) : below(40));
+    regs[H8_PC] = entry;
+    regs[H8_CONDITION] = below(256);
+    for (int returned = 0; !returned;) {
+        uint32_t at = regs[H8_PC];
+        int unknown = decode(rom + (at < n ? at : 0), at < n ? n - at : 0, &d);
+        uint32_t got = h8_step(base, rom, n, ram, 32, regs, 10, answer, 3);
+        if (got && (got < 5 || got > 7))
+            return fail("a run from %X is refused by %u at %X", entry, got, answer[1]);
+        if (got)
+            break;
+        returned = !unknown && d.fields[H8_KIND] == H8_RTS;
+        states += answer[2];
+        steps++;
+        if (states > figure || steps > n / 2)
+            return fail("a run from %X took %llu states and %llu steps, figure %llu", entry, (ull)states, (ull)steps, (ull)figure);
+    }
+    count(1);
+}
+
+static void runs_of_listing(void)
+{
+    static uint8_t code[2 * WORDS + 8];
+    static uint64_t table[2 * WORDS + 8];
+    uint64_t answer[3];
+    uint32_t n = make_listing(code), entry = 2 * below(n / 2);
+    uint8_t *rom = lend(&rom_lender, n);
+    memcpy(rom, code, n);
+    if (h8_figure(rom, n, entry, table, n, answer, 3) == 0)
+        for (int k = 0; k < 10 && !failing(); k++)
+            run_from(rom, n, entry, answer[2]);
+}
+
+/* LONG LISTINGS, whose figures are known by a sum. */
+struct long_listing {
+    const char *what;
+    uint32_t rom_n;
+    uint8_t word[2], last[4];               /* repeated, and the last four bytes */
+    uint32_t entry, number, place, each, last_figures[2];
+};
+static const struct long_listing long_listings[] = {
+    {"524,288 bytes of BEQ to the next but one", 524288, {0x47, 0x02}, {0x54, 0x70, 0x54, 0x70}, 0, 0, 0, 4, {10, 10}},
+    {"524,288 bytes of BNE to the next", 524288, {0x46, 0x00}, {0x00, 0x00, 0x54, 0x70}, 2, 0, 0, 4, {12, 10}},
+    {"524,288 bytes of NOP", 524288, {0x00, 0x00}, {0x00, 0x00, 0x54, 0x70}, 524286, 0, 0, 2, {12, 10}},
+    {"524,288 bytes of BEQ that run out", 524288, {0x47, 0x02}, {0x00, 0x00, 0x00, 0x00}, 0, 2, 524288, 0, {0, 0}},
+    {"524,286 bytes of BRN that run out", 524286, {0x41, 0x80}, {0x00, 0x00, 0x00, 0x00}, 0, 2, 524286, 0, {0, 0}},
+};
+
+static void compare_long(const struct long_listing *l)
+{
+    uint32_t n = l->rom_n;
+    uint8_t *rom = lend(&rom_lender, n);
+    uint64_t *table = lend(&out_lender, 8 * (size_t)(n + 1)), *answer = lend(&answer_lender, 24);
+    for (uint32_t i = 0; i < n; i++)
+        rom[i] = i < n - 4 ? l->word[i % 2] : l->last[i - (n - 4)];
+    table[n] = 4711;
+    uint32_t got = h8_figure(rom, n, l->entry, table, n + 1, answer, 3);
+    int right = got == l->number && answer[0] == l->number && answer[1] == l->place && answer[2] == table[l->entry] && table[n] == 4711;
+    for (uint32_t p = 0; p < n && right; p += 2) {
+        uint64_t figure = p >= n - 4 ? l->last_figures[(p - (n - 4)) / 2] : l->last_figures[0] + (uint64_t)l->each * ((n - 4 - p) / 2);
+        right = table[p] == (l->number ? 0 : figure) && table[p + 1] == (l->number ? l->place : H8_NONE);
+    }
+    if (right)
+        follow(rom, n, l->entry, table);
+    count(n / 2);
+    if (!right)
+        fail("%s: answers %llu at %llX, figure %llu", l->what, (ull)answer[0], (ull)answer[1], (ull)answer[2]);
+}
+
+/* Lengths that are refused, the table staying as it was. */
+static void wrong_lengths(void)
+{
+    static const uint32_t lengths[] = {524290, 524289, 524287, 1};
+    for (int i = 0; i < 4; i++)
+        for (uint32_t entry = 0; entry < 2; entry++) {
+            uint32_t n = lengths[i];
+            uint8_t *rom = lend(&rom_lender, n);
+            uint64_t *table = lend(&out_lender, 8 * (size_t)n), *answer = lend(&answer_lender, 24);
+            memset(rom, 0, n);
+            memset(table, 0x77, 8 * (size_t)n);
+            uint32_t figure = h8_figure(rom, n, entry, table, n, answer, 3);
+            int right = figure == 1 && answer[0] == 1 && answer[1] == 0 && answer[2] == 0;
+            uint32_t way = h8_way(rom, n, table, n, entry, answer, 3);
+            right &= way == 1 && answer[0] == 1 && answer[1] == 0 && answer[2] == 0;
+            for (uint32_t k = 0; k < n; k++)
+                right &= table[k] == 0x7777777777777777;
+            if (!right)
+                fail("a length of %u: figure answers %u, way %u, or the table changed", n, figure, way);
+            count(2);
+        }
+}
+
+/* Short listings whose answers are written out. */
+struct told { const char *what, *code; uint32_t entry, number, place, figure; };
+static const struct told tolds[] = {
+    {"BRA 7F", "407F", 0, 2, 0x80, 0},
+    {"BRA 80 wraps below 0: outside, not backward", "4080", 0, 2, 0xFFFF82, 0},
+    {"BEQ 80 wraps below 0", "47805470", 0, 2, 0xFFFF82, 0},
+    {"BRA d:16 8000 wraps below 0", "58008000", 0, 2, 0xFF8004, 0},
+    {"BRA d:16 7FFF", "58007FFF", 0, 2, 0x8002, 0},
+    {"BRN back is followed only onward", "41FE5470", 0, 0, 0, 14},
+    {"BRN d:16 back", "5810FFFC5470", 0, 0, 0, 16},
+    {"BNE to itself: its other way is not followed", "46FE0001", 0, 10, 0, 0},
+    {"BNE to the odd address behind itself", "460100005470", 0, 0, 0, 16},
+    {"JMP to itself", "5A000000", 0, 10, 0, 0},
+    {"JMP up", "5A00000500005470", 0, 0, 0, 18},
+    {"JMP far up", "5AFFFFFF", 0, 2, 0xFFFFFE, 0},
+    {"JMP @ER0", "5900", 0, 9, 0, 0},
+    {"JMP @@aa:8", "5B00", 0, 9, 0, 0},
+    {"BSR", "55005470", 0, 9, 0, 0},
+    {"JSR aa:24, cut short: 4 before 9", "5E00", 0, 4, 0, 0},
+    {"JSR after a NOP", "00005E0000005470", 0, 9, 2, 0},
+    {"unknown", "00005470FFFF0102", 6, 3, 6, 0},
+    {"cut short", "00007900", 0, 4, 2, 0},
+    {"the lowest of two forbidden places", "47025B005900", 0, 9, 2, 0},
+    {"more states on the path with fewer instructions", "470600000000547001006B0000005470", 0, 0, 0, 24},
+    {"RTS alone", "5470", 0, 0, 0, 10},
+};
+
+static void compare_told(const struct told *t)
+{
+    uint32_t n = (uint32_t)strlen(t->code) / 2;
+    uint8_t *rom = lend(&rom_lender, n);
+    uint64_t *table = lend(&out_lender, 8 * n), *answer = lend(&answer_lender, 24);
+    from_hex(t->code, rom);
+    uint32_t got = h8_figure(rom, n, t->entry, table, n, answer, 3);
+    if (got != t->number || answer[0] != t->number || answer[1] != t->place || answer[2] != t->figure)
+        fail("%s (%s): %llu at %llX, figure %llu; wanted %u at %X, figure %u", t->what, t->code, (ull)answer[0], (ull)answer[1],
+             (ull)answer[2], t->number, t->place, t->figure);
+    count(1);
+}
+
+void test_figures(void)
+{
+    begin("figure of short listings with the answers written out");
+    for (size_t i = 0; i < sizeof tolds / sizeof *tolds; i++)
+        compare_told(&tolds[i]);
+    end("listings");
+    begin("figure and way against the enumeration of every path on random listings");
+    for (int k = 0; k < 6000 && !failing(); k++)
+        compare_listing();
+    end("entries");
+    note("figures %" PRIu64 "; refusals 2, 3, 4, 9, 10: %" PRIu64 " %" PRIu64 " %" PRIu64 " %" PRIu64 " %" PRIu64 "; up to %" PRIu64 " paths",
+         answers[0], answers[2], answers[3], answers[4], answers[9], answers[10], most_paths);
+    begin("no run above its figure");
+    for (int k = 0; k < 20000 && !failing(); k++)
+        runs_of_listing();
+    end("runs");
+    begin("figure and way on listings as long as can be, whole tables");
+    for (size_t i = 0; i < sizeof long_listings / sizeof *long_listings; i++)
+        compare_long(&long_listings[i]);
+    end("places");
+    begin("figure and way: lengths 524,290 and odd");
+    wrong_lengths();
+    end("calls");
+}

@@ -1,0 +1,189 @@
+/* The references themselves: the decoder's counts against the ones reckoned from the manual, and the twelve marked examples
+   of document 01 with their numbers written out, on the model and on the library. */
+#include "bench.h"
+#include <string.h>
+
+static void expect(const char *what, long got, long wanted)
+{
+    count(1);
+    if (got != wanted)
+        fail("%s: %ld, and it should be %ld", what, got, wanted);
+}
+
+/* 2(I+J+K+L+M)+N from a text such as "I2 L1 N2". */
+static int states_of_cycles(const char *text)
+{
+    int sum = 0;
+    for (const char *p = text; *p; p++)
+        if (*p >= 'I' && *p <= 'N')
+            sum += (*p == 'N' ? 1 : 2) * (p[1] - '0');
+    return sum;
+}
+
+static void count_rows(void)
+{
+    long shapes = 0, rows_of[9] = {0}, shapes_of[9] = {0};
+    for (int i = 0; i < FORMS; i++) {
+        int other = decoder_other_top(i), reg = decoder_reg_top(i), length = decoder_length(i);
+        long here = (other ? other : 1) * (reg ? reg : 1);
+        shapes += here;
+        rows_of[length]++;
+        shapes_of[length] += here;
+        expect(forms[i].name, states_of_cycles(forms[i].cycles), forms[i].states);
+    }
+    expect("codes without operands", shapes, 7700);
+    expect("rows of 2 bytes", rows_of[2], 119);
+    expect("rows of 4 bytes", rows_of[4], 41);
+    expect("rows of 6 bytes", rows_of[6], 15);
+    expect("rows of 8 bytes", rows_of[8], 2);
+    expect("codes of 2 bytes", shapes_of[2], 6265);
+    expect("codes of 4 bytes", shapes_of[4], 1155);
+    expect("codes of 6 bytes", shapes_of[6], 264);
+    expect("codes of 8 bytes", shapes_of[8], 16);
+}
+
+static void count_words(void)
+{
+    struct decoded d;
+    long whole = 0, longer = 0, bytes = 0, after_0100 = 0, after_01f0 = 0;
+    for (unsigned w = 0; w < 65536; w++) {
+        uint8_t b[4] = {(uint8_t)(w >> 8), (uint8_t)w, 0, 0};
+        uint8_t moves[4] = {1, 0, b[0], b[1]}, logic[4] = {1, 0xF0, b[0], b[1]};
+        int a = decode(b, 2, &d);
+        whole += a == 0;
+        longer += a == 4;
+        bytes += b[1] == 0 && decode(b, 1, &d) == 4;
+        after_0100 += decode(moves, 4, &d) != 3;
+        after_01f0 += decode(logic, 4, &d) != 3;
+    }
+    expect("first words that are whole codes", whole, 52930);
+    expect("first words that begin a longer code", longer, 1339);
+    expect("first bytes that begin a code", bytes, 231);
+    expect("second words after 0100", after_0100, 416);
+    expect("second words after 01F0", after_01f0, 192);
+}
+
+/* How many of the 1,024 (C, H, byte) combinations are adjusted. */
+static long adjusted(uint8_t code)
+{
+    uint8_t rom[2] = {code, 0x08}, ram[1];
+    struct board b = {2, rom, 2, ram, 0};
+    long n = 0;
+    for (uint32_t k = 0; k < 1024; k++) {
+        uint32_t regs[10] = {k & 255};
+        regs[H8_CONDITION] = (k >> 8 & 1) | (k >> 9 ? 0x20 : 0);
+        n += model_step(&b, regs).number == 0;
+    }
+    return n;
+}
+
+/* No form equals or begins another: a code built of one is decoded as that one. */
+static void no_overlap(void)
+{
+    struct decoded d;
+    uint8_t code[8];
+    for (int i = 0; i < FORMS; i++)
+        for (int k = 0; k < 500; k++) {
+            int n = build(i, (uint32_t)any(), (uint32_t)any(), (uint32_t)any(), code);
+            expect("decoded", decode(code, (size_t)n, &d) == 0 ? d.form : -1, i);
+            expect("form of its fields", form_of(d.fields), i);
+        }
+}
+
+void test_reference(void)
+{
+    begin("reference: counts of the set against the manual's");
+    count_rows();
+    count_words();
+    no_overlap();
+    expect("DAA combinations", adjusted(0x0F), 384);
+    expect("DAS combinations", adjusted(0x1F), 380);
+    end("checks");
+}
+
+/* THE MARKED EXAMPLES. */
+struct marked {
+    int number;
+    uint8_t code[2];
+    uint32_t er0, er1, condition;           /* before */
+    uint32_t refusal, states;
+    uint32_t er0_after, er1_after, condition_after;
+    uint8_t ram[2], ram_after[2];           /* at FFEF10 */
+};
+static const struct marked examples[] = {
+    {1, {0x08, 0x89}, 0x7F, 0x01, 0x05, 0, 2, 0x7F, 0x80, 0x2A, {0, 0}, {0, 0}},
+    {2, {0x0E, 0x89}, 0x00, 0xFF, 0x01, 0, 2, 0x00, 0x00, 0x21, {0, 0}, {0, 0}},
+    {2, {0x0E, 0x89}, 0x00, 0xFF, 0x05, 0, 2, 0x00, 0x00, 0x25, {0, 0}, {0, 0}},
+    {3, {0x0F, 0x09}, 0x00, 0x5A, 0x00, 0, 2, 0x00, 0x60, 0x00, {0, 0}, {0, 0}},
+    {4, {0x0F, 0x09}, 0x00, 0x9A, 0x00, 0, 2, 0x00, 0x00, 0x05, {0, 0}, {0, 0}},
+    {5, {0x0F, 0x09}, 0x00, 0x21, 0x21, 0, 2, 0x00, 0x87, 0x29, {0, 0}, {0, 0}},
+    {6, {0x0F, 0x09}, 0x00, 0x04, 0x20, 7, 0, 0x00, 0x04, 0x20, {0, 0}, {0, 0}},
+    {7, {0x1C, 0x89}, 0x01, 0x80, 0x0D, 0, 2, 0x01, 0x80, 0x22, {0, 0}, {0, 0}},
+    {8, {0x69, 0x10}, 0x00, 0x00FFEF11, 0x00, 0, 4, 0x1234, 0x00FFEF11, 0x00, {0x12, 0x34}, {0x12, 0x34}},
+    {9, {0x6D, 0x80}, 0x00FFEF12, 0x00, 0x00, 0, 6, 0x00FFEF10, 0x00, 0x08, {0x12, 0x34}, {0xEF, 0x10}},
+};
+
+static void marked_step(const struct marked *m)
+{
+    struct state s = {.base = 0xFFEF10, .rom_n = 2, .ram_n = 2, .regs = {m->er0, m->er1}};
+    uint32_t regs[10];
+    uint8_t ram[2];
+    struct board b = {s.base, s.rom, 2, ram, 2};
+    memcpy(s.rom, m->code, 2);
+    memcpy(s.ram, m->ram, 2);
+    memcpy(ram, m->ram, 2);
+    s.regs[H8_CONDITION] = m->condition;
+    memcpy(regs, s.regs, sizeof regs);
+    struct outcome o = model_step(&b, regs);
+    compare_step(&s);
+    if (o.number != m->refusal || o.place != 0 || o.states != m->states || regs[0] != m->er0_after || regs[1] != m->er1_after
+        || regs[H8_CONDITION] != m->condition_after || regs[H8_PC] != (m->refusal ? 0u : 2u) || memcmp(ram, m->ram_after, 2)) {
+        fail("marked example %d: the model is wrong", m->number);
+        show_registers("model", regs);
+    }
+}
+
+/* Example 7 goes on: BLT is then taken. */
+static void marked_branch(void)
+{
+    struct state s = {.base = 0xFFEF10, .rom_n = 8, .rom = {0x1C, 0x89, 0x4D, 0x02}, .regs = {0x01, 0x80}};
+    uint8_t ram[1];
+    struct board b = {s.base, s.rom, 8, ram, 0};
+    model_step(&b, s.regs);
+    compare_step(&s);
+    struct outcome o = model_step(&b, s.regs);
+    expect("BLT's states", o.states, 4);
+    expect("PC after BLT", s.regs[H8_PC], 6);
+}
+
+/* Examples 10 to 12: the answer and the whole table, with a number behind it that stays. */
+static void marked_figure(int example, const uint8_t *code, size_t n, const uint64_t answer[3], const uint64_t *table)
+{
+    uint8_t *rom = lend(&rom_lender, n);
+    uint64_t *got = lend(&out_lender, 8 * (n + 1)), *told = lend(&answer_lender, 24);
+    memcpy(rom, code, n);
+    for (size_t i = 0; i <= n; i++)
+        got[i] = 4711 + i;
+    uint32_t returned = h8_figure(rom, n, 0, got, n + 1, told, 3);
+    count(1);
+    if (returned != answer[0] || memcmp(told, answer, 24) || memcmp(got, table, 8 * n) || got[n] != 4711 + n) {
+        fail("marked example %d: figure answers %llu at %llu, figure %llu", example, (unsigned long long)told[0],
+             (unsigned long long)told[1], (unsigned long long)told[2]);
+        for (size_t i = 0; i <= n; i++)
+            say("table[%zu] = %llu", i, (unsigned long long)got[i]);
+    }
+}
+
+void test_marked(void)
+{
+    static const uint8_t ten[] = {0x47, 0x02, 0x0B, 0x50, 0x54, 0x70}, eleven[] = {0x40, 0xFE}, twelve[] = {0x0B, 0x50};
+    static const uint64_t ten_table[] = {16, H8_NONE, 12, H8_NONE, 10, H8_NONE}, eleven_table[] = {0, 0}, twelve_table[] = {0, 2};
+    begin("marked examples 1 to 12 of document 01");
+    for (size_t i = 0; i < sizeof examples / sizeof *examples; i++)
+        marked_step(&examples[i]);
+    marked_branch();
+    marked_figure(10, ten, 6, (const uint64_t[]){0, 0, 16}, ten_table);
+    marked_figure(11, eleven, 2, (const uint64_t[]){10, 0, 0}, eleven_table);
+    marked_figure(12, twelve, 2, (const uint64_t[]){2, 2, 0}, twelve_table);
+    end("checks");
+}

@@ -1,0 +1,169 @@
+/* h8.h: the H8/300H processor in proved software, for programs in C.
+
+   Six functions over numbers and lent arrays. An array is lent as a pointer and its length in elements. The library keeps
+   nothing between calls, allocates nothing, prints nothing and calls nothing.
+
+   WHAT THE CALLER OWES, since it can't be checked behind a pointer:
+   - a pointer is not null, is aligned for its type and is good for the length given with it: readable, and writable where
+     it is not const. With length 0 any pointer that is not null and is aligned will do.
+   - two arrays lent to one call don't overlap, unless both are const.
+   - nothing else reads or writes them before the call returns.
+   EVERYTHING ELSE IS CHECKED: any number in any argument or array is allowed, and is answered or refused.
+
+   ANSWERS. Each function returns 0 if it did what was asked, else the number of the refusal:
+
+     No.  when                                                                       place
+      1   board wrong; PC odd or at least 2^24; condition number over 255            0
+      2   fetch outside read-only memory                                             the address
+      3   unknown code                                                               the address
+      4   a code cut short by the end of the bytes                                   the address
+      5   data read outside both memories                                            the first failing address
+      6   data write outside working memory                                          the first failing address
+      7   DAA or DAS outside the rows of the manual                                  the instruction
+      8   entry odd or outside read-only memory                                      the entry
+      9   the listing can't be followed here: a call, JMP @ERn or JMP @@aa:8         that place
+     10   a way from here goes to a target that is not above it                      that place
+     11   not an instruction: a field out of range                                   0
+     12   budget over 1,000,000                                                      0
+     13   a lent array is too short                                                  the length it needs
+
+   All but h8_decode also write this number and its place to the first two numbers of the lent array `answer`. All the
+   numbers of an answer that are named here are written at each call, 0 where nothing is said below; numbers past them stay
+   as they were. An `answer` that is too short is looked for before all else: then 13 is returned and nothing is written.
+   A `regs` or a `fields` to be filled that is too short is looked for next. After these two each function's own order follows.
+
+   On a refusal nothing lent changes but `answer`, with two exceptions: h8_run keeps the steps it completed, and h8_figure
+   fills its table on 2, 3, 4, 9 and 10.
+
+   AN EXAMPLE: how many states a routine at 0x100 can take.
+
+     uint8_t rom[4096];                          // filled from a file; rom_n bytes of it
+     uint64_t table[4096], answer[3];
+     if (h8_figure(rom, rom_n, 0x100, table, rom_n, answer, 3) == 0)
+         printf("at most %llu states\n", (unsigned long long)answer[2]);
+     else
+         printf("refusal %llu at %06llX\n", (unsigned long long)answer[0], (unsigned long long)answer[1]);
+ */
+#ifndef H8_H
+#define H8_H
+
+#include <stddef.h>
+#include <stdint.h>
+
+#ifdef __cplusplus
+extern "C" {
+#endif
+
+/* THE BOARD. Read-only memory `rom` begins at address 0; its length is even and at most 524,288. Working memory `ram`
+   begins at `base`; its length is even and at most 65,536; `base` is even and not below the end of read-only memory, and
+   working memory ends at or below 2^24 (16,777,216). Either may be empty. Code is fetched from read-only memory only; data
+   is read from both and written to working memory only. Bytes of a word and words of a longword are upper first. */
+#define H8_ROM_MAX 524288u
+#define H8_RAM_MAX 65536u
+#define H8_BUDGET_MAX 1000000u
+
+/* THE REGISTERS, ten numbers: ER0 to ER7, PC, and the condition byte (I UI H U N Z V C from bit 7 to bit 0).
+   ER0 to ER7 may be any numbers. PC is even and below 2^24, the condition byte is at most 255; else refusal 1. */
+enum h8_register { H8_ER0 = 0, H8_ER7 = 7, H8_PC = 8, H8_CONDITION = 9, H8_REGISTERS = 10 };
+
+/* AN INSTRUCTION, nine numbers. The first says which kind it is; the kinds use the next six as this table says, and those
+   that a kind does not use are 0. The last two are its length in bytes and its states.
+
+     kind          WHICH        WIDTH    FORM         OTHER                     VALUE                  REG
+     H8_NOP        -            -        -            -                         -                      -
+     H8_STC        -            -        -            -                         -                      Rd
+     H8_LDC        -            -        -            -                         -                      Rs
+     H8_CCR        h8_change    -        -            -                         #xx:8                  -
+     H8_ALU        h8_op        width    h8_source    source register, or 0     immediate, or 0        Rd
+     H8_INCDEC     h8_way       width    h8_by        -                         -                      Rd
+     H8_ADDSSUBS   h8_way       -        h8_by        -                         -                      ERd
+     H8_DECIMAL    h8_way       -        -            -                         -                      Rd
+     H8_SHIFT      h8_turn      width    -            -                         -                      Rd
+     H8_UNARY      h8_single    width    -            -                         -                      Rd
+     H8_MOVE       h8_dir       width    h8_place     address register, or 0    d:16, aa:n, or 0       loaded or stored
+     H8_BCC        condition    -        h8_reach     -                         d:8 or d:16            -
+     H8_JMP        -            -        h8_target    address register, or 0    aa:24, aa:8, or 0      -
+     H8_BSR        -            -        h8_reach     -                         d:8 or d:16            -
+     H8_JSR        -            -        h8_target    address register, or 0    aa:24, aa:8, or 0      -
+     H8_RTS        -            -        -            -                         -                      -
+
+   A register is the digit of the code. Byte: 0 to 7 R0H to R7H, 8 to 15 R0L to R7L. Word: 0 to 7 R0 to R7, 8 to 15 E0 to
+   E7. Long, and every address register: 0 to 7. A condition is the digit of the code, 0 BRA, 1 BRN, ... 15 BLE.
+   Displacements are given by their bits (d:8 at most 255, d:16 at most 65,535), not as signed numbers. Immediates fit
+   their width, aa:8 is at most 255, aa:16 at most 65,535, aa:24 at most 16,777,215.
+   MOV between registers and with an immediate is H8_ALU with H8_MOV; with memory it is H8_MOVE. */
+enum h8_field {
+    H8_KIND = 0, H8_WHICH = 1, H8_WIDTH = 2, H8_FORM = 3, H8_OTHER = 4, H8_VALUE = 5, H8_REG = 6,
+    H8_LENGTH = 7, H8_STATES = 8, H8_FIELDS = 9
+};
+enum h8_kind {
+    H8_NOP, H8_STC, H8_LDC, H8_CCR, H8_ALU, H8_INCDEC, H8_ADDSSUBS, H8_DECIMAL,
+    H8_SHIFT, H8_UNARY, H8_MOVE, H8_BCC, H8_JMP, H8_BSR, H8_JSR, H8_RTS
+};
+enum h8_width { H8_BYTE, H8_WORD, H8_LONG };
+enum h8_change { H8_ORC, H8_XORC, H8_ANDC, H8_LDC_IMM };
+enum h8_op { H8_ADD, H8_SUB, H8_CMP, H8_MOV, H8_ADDX, H8_SUBX, H8_OR, H8_XOR, H8_AND };
+enum h8_source { H8_SOURCE_REG, H8_SOURCE_IMM };
+enum h8_way { H8_UP, H8_DOWN };                 /* INC, ADDS, DAA; or DEC, SUBS, DAS */
+enum h8_by { H8_BY_1, H8_BY_2, H8_BY_4 };
+enum h8_turn { H8_SHLL, H8_SHLR, H8_ROTXL, H8_ROTXR, H8_SHAL, H8_SHAR, H8_ROTL, H8_ROTR };
+enum h8_single { H8_NOT, H8_NEG, H8_EXTU, H8_EXTS };
+enum h8_dir { H8_LOAD, H8_STORE };
+enum h8_place { H8_AT, H8_STEP, H8_DISP, H8_ABS8, H8_ABS16, H8_ABS24 };  /* H8_STEP: @ER+ of a load, @-ER of a store */
+enum h8_reach { H8_NEAR, H8_FAR };              /* d:8, d:16 */
+enum h8_target { H8_BY_REG, H8_DIRECT, H8_VECTOR };                      /* @ERn, @aa:24, @@aa:8 */
+
+/* No place: a table's second number where nothing is forbidden, and h8_way's next place at a return. It is odd. */
+#define H8_NONE 16777215u
+
+/* The instruction that `bytes` begin with; what follows it doesn't matter, and `n` may be any length, 0 too.
+   Looks for: 13 (fields_n below 9), 4 (bytes are a proper beginning of a code), 3 (no code begins them and they begin none).
+   0: fields[0..8] hold the instruction. Else nothing is written; the place of 3 and 4 is 0 and that of 13 is 9. */
+uint32_t h8_decode(const uint8_t *bytes, size_t n, uint32_t *fields, size_t fields_n);
+
+/* The bytes of an instruction. fields[H8_LENGTH] and fields[H8_STATES] are not looked at, but stand there.
+   answer, 3 numbers: [number, place, bytes written].
+   Looks for: 13 (answer_n below 3: nothing written), 11 (fields_n below 9; a kind, choice, register or value out of range, a
+   number that the kind does not use and that is not 0, or a combination that has no code, as SUB.B #xx:8), 13 (`out`
+   shorter than the code: place its length). 0: the first bytes of `out` are the code, and its other bytes stay. */
+uint32_t h8_encode(const uint32_t *fields, size_t fields_n, uint8_t *out, size_t out_n, uint32_t *answer, size_t answer_n);
+
+/* One instruction, at PC.
+   answer, 3 numbers: [number, place, states].
+   Looks for: 13 (answer_n below 3: nothing written), 13 (regs_n below 10: place 10), 1, 2, 4 or 3, 5, 6, 7.
+   0: `regs` and `ram` are as the instruction leaves them, `states` is what it took. Else both are as they were, states 0. */
+uint32_t h8_step(uint32_t base, const uint8_t *rom, size_t rom_n, uint8_t *ram, size_t ram_n,
+                 uint32_t *regs, size_t regs_n, uint32_t *answer, size_t answer_n);
+
+/* Steps until PC is `stop`, or `budget` steps are done, or a step is refused. Before each step it looks first for the stop
+   address and then for the budget. Any `stop` is allowed; one that PC can't hold is never met.
+   answer, 5 numbers: [number, place, steps done, the sum of their states, ending]; the ending of every refusal is H8_REFUSED.
+   Looks for: 13 (answer_n below 5: nothing written), 13 (regs_n below 10: place 10), 12, 1; in these four cases no step is
+   done. Then the refusals of a step. `regs` and `ram` are as the completed steps leave them, whatever the ending. */
+enum h8_ending { H8_STOPPED, H8_SPENT, H8_REFUSED };
+uint32_t h8_run(uint32_t base, const uint8_t *rom, size_t rom_n, uint8_t *ram, size_t ram_n,
+                uint32_t *regs, size_t regs_n, uint32_t stop, uint32_t budget, uint64_t *answer, size_t answer_n);
+
+/* The figure of the routine at `entry`: the largest total of states over all paths from there to an RTS.
+   answer, 3 numbers: [number, place, figure].
+   Looks for: 13 (answer_n below 3: nothing written), 1 (length of `rom` odd or over 524,288), 8, 13 (table_n below rom_n:
+   place rom_n); in these cases the table stays. Else the table is filled: for each place p, that is, each even address
+   below rom_n, table[p] is its figure, 0 if refused, and table[p+1] is the lowest forbidden place that its paths reach,
+   H8_NONE if none. Numbers from table[rom_n] on stay. Then 2, 3, 4, 9 or 10 at the entry's lowest forbidden place, or 0. */
+uint32_t h8_figure(const uint8_t *rom, size_t rom_n, uint32_t entry, uint64_t *table, size_t table_n,
+                   uint64_t *answer, size_t answer_n);
+
+/* One instruction of the longest way: where the path of the largest total goes from `place`. Where next instruction and
+   target have the same figure it goes to the next instruction. Followed from an entry until H8_NONE, the states of the
+   instructions on the way add up to that entry's figure.
+   `table` is one that h8_figure filled for these bytes. (With another table nothing is promised of the answer's numbers.)
+   answer, 3 numbers: [number, place, next place, or H8_NONE if the routine returns here].
+   Looks for: 13 (answer_n below 3: nothing written), 1, 8 (`place` odd or outside), 13 (table_n below rom_n: place rom_n),
+   then what h8_figure answers for this place as its entry: 2, 3, 4, 9 or 10 at its lowest forbidden place. */
+uint32_t h8_way(const uint8_t *rom, size_t rom_n, const uint64_t *table, size_t table_n, uint32_t place,
+                uint64_t *answer, size_t answer_n);
+
+#ifdef __cplusplus
+}
+#endif
+#endif
