@@ -1,0 +1,5 @@
+-- What callers may cite: `Laws`.
+mod Fields
+mod Rendered
+mod Stored
+pub mod Laws

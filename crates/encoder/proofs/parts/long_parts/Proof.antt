@@ -1,0 +1,20 @@
+use borrow.Author.Needs.{needs}
+use Rattle.encoder.proofs.parts.long_parts.Statement.{statement}
+use Rattle.encoder.proofs.parts.long_parts.Tie as tie
+
+pub long-parts-spec : {M : Type 1} → statement M
+long-parts-spec =
+    tie.close
+    (tie.spec (λ c. search needs) (λ c κs. search needs) (λ c κs. search needs) (λ c. search needs) (λ c κs. search needs)
+    (λ c κs. search needs) (λ c. search needs) (λ c κs. search needs) (λ c κs. search needs) (λ c. search needs) (λ c κs. search needs)
+    (λ c κs. search needs) (λ c. search needs) (λ c κs. search needs) (λ c. search needs) (λ c κs. search needs) (λ c. search needs)
+    (λ c κs. search needs) (λ c κs. search needs) (λ c. search needs) (λ c κs. search needs) (λ c κs. search needs) (λ c. search needs)
+    (λ c κs. search needs) (λ c κs. search needs)
+    (λ c. simp (c .before .before .enum-told .given .1, c .one .ensures, c .before .raised .ensures))
+    (λ c. simp (c .before .before .enum-told2 .given .1, c .one2 .ensures, c .before .raised2 .ensures))
+    (λ c. simp (c .before .before .enum-told3 .given .1, c .one3 .ensures, c .before .raised3 .ensures))
+    (λ c. simp (c .before .before .enum-told4 .given .1, c .one4 .ensures, c .before .raised4 .ensures))
+    (λ c. simp (c .before .enum-told5 .given .1, c .one5 .ensures)) (λ c. simp (c .before .enum-told6 .given .1, c .one6 .ensures))
+    (λ c. simp (c .before .before .enum-told7 .given .1, c .made .ensures, c .before .digits .ensures))
+    (λ c. simp (c .before .before .enum-told8 .given .1, c .made2 .ensures, c .before .digits2 .ensures))
+    (λ c. simp (c .before .before .enum-told9 .given .1, c .made3 .ensures, c .before .digits3 .ensures)))

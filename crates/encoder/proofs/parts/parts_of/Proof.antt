@@ -1,0 +1,30 @@
+use borrow.Author.Needs.{needs}
+use Rattle.encoder.proofs.parts.parts_of.Statement.{statement}
+use Rattle.encoder.proofs.parts.parts_of.Tie as tie
+
+pub parts-of-spec : {M : Type 1} → statement M
+parts-of-spec =
+    tie.close
+    (tie.spec (λ c. search needs) (λ c κs. search needs) (λ c. search needs) (λ c κs. search needs) (λ c κs. search needs)
+    (λ c. search needs) (λ c κs. search needs) (λ c κs. search needs) (λ c. search needs) (λ c κs. search needs) (λ c κs. search needs)
+    (λ c κs. search needs) (λ c. search needs) (λ c κs. search needs) (λ c. search needs) (λ c κs. search needs) (λ c. search needs)
+    (λ c κs. search needs) (λ c κs. search needs) (λ c κs. search needs) (λ c κs. search needs) (λ c κs. search needs) (λ c. search needs)
+    (λ c κs. search needs) (λ c κs. search needs) (λ c κs. search needs) (λ c κs. search needs) (λ c. search needs) (λ c κs. search needs)
+    (λ c. search needs) (λ c κs. search needs) (λ c. search needs) (λ c κs. search needs) (λ c. search needs) (λ c κs. search needs)
+    (λ c. search needs) (λ c κs. search needs) (λ c. search needs) (λ c κs. search needs) (λ c. search needs) (λ c κs. search needs)
+    (λ c. search needs) (λ c κs. search needs) (λ c. simp (c .before .enum-told .given .1, c .one .ensures))
+    (λ c. simp (c .before .before .before .i .given .1, c .one2 .ensures, c .before .digits .ensures))
+    (λ c. simp (c .before .before .before .i2 .given .1, c .one3 .ensures, c .before .digits2 .ensures))
+    (λ c. simp (c .before .before .before .before .i3 .given .1, c .one4 .ensures, c .before .wide .ensures .0, c .before .before .change-code .ensures))
+    (λ c. simp (c .before .before .i4 .given .1, c .alu-parts .ensures))
+    (λ c. simp (c .before .before .i5 .given .1, c .inc-dec-parts .ensures))
+    (λ c. simp (c .before .before .before .before .before .before .i6 .given .1, c .one5 .ensures, c .before .digits4 .ensures, c .before .before .adds-digit .ensures, c .before .before .before .digits3 .ensures, c .before .before .before .before .way-digit .ensures))
+    (λ c. simp (c .before .before .before .before .before .i7 .given .1, c .one6 .ensures, c .before .digits6 .ensures, c .before .before .digits5 .ensures, c .before .before .before .way-digit2 .ensures))
+    (λ c. simp (c .before .before .i8 .given .1, c .shift-parts .ensures))
+    (λ c. simp (c .before .before .i9 .given .1, c .unary-parts .ensures))
+    (λ c. simp (c .before .before .i10 .given .1, c .move-parts .ensures))
+    (λ c. simp (c .before .before .i11 .given .1, c .bcc-parts .ensures))
+    (λ c. simp (c .before .before .i12 .given .1, c .target-parts .ensures))
+    (λ c. simp (c .before .before .i13 .given .1, c .bsr-parts .ensures))
+    (λ c. simp (c .before .before .i14 .given .1, c .target-parts2 .ensures))
+    (λ c. simp (c .before .enum-told2 .given .1, c .one7 .ensures)))

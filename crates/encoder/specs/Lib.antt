@@ -1,0 +1,4 @@
+pub mod Names
+pub mod MirrorValid
+pub mod MirrorParts
+pub mod MirrorWrite

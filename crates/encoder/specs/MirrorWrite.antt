@@ -1,0 +1,38 @@
+-- The stores, case by case as the code of `src/write.rt` does. Nothing here is to be believed.
+use Prim.Native.Nat.{ℕ, _+_, _/_, _%_}
+use mathlib.Core.List.{List}
+use lib.ListN.{set}
+use Rattle.encoder.specs.Names.{Prefix, Bare, P0100, P01F0, Tail, NoTail, Tail16, Tail32, Parts}
+
+abbrev pub set2 : List ℕ → ℕ → ℕ → ℕ → List ℕ
+set2 l at x y = set (set l at (x % 256)) (at + 1) (y % 256)
+
+abbrev pub set4 : List ℕ → ℕ → ℕ → List ℕ
+set4 l at v = set2 (set2 l at (v / 16777216) (v / 65536)) (at + 2) (v / 256) v
+
+abbrev pub startOf : Prefix → ℕ
+startOf Bare = 0
+startOf P0100 = 2
+startOf P01F0 = 2
+
+abbrev pub tailSize : Tail → ℕ
+tailSize NoTail = 0
+tailSize Tail16 = 2
+tailSize Tail32 = 4
+
+abbrev pub sizeOf : Parts → ℕ
+sizeOf h = startOf (h .prefix) + 2 + tailSize (h .tail)
+
+abbrev pub prefixSet : List ℕ → Prefix → List ℕ
+prefixSet l Bare = l
+prefixSet l P0100 = set2 l 0 0x01 0x00
+prefixSet l P01F0 = set2 l 0 0x01 0xF0
+
+abbrev pub tailSet : List ℕ → ℕ → Tail → ℕ → List ℕ
+tailSet l at NoTail v = l
+tailSet l at Tail16 v = set2 l at (v / 256) v
+tailSet l at Tail32 v = set4 l at v
+
+abbrev pub writeOf : Parts → List ℕ → List ℕ
+writeOf h l =
+    tailSet (set2 (prefixSet l (h .prefix)) (startOf (h .prefix)) (h .a) (h .b)) (startOf (h .prefix) + 2) (h .tail) (h .v)

@@ -1,0 +1,443 @@
+// The parts of an instruction's code. The tables are those of the code list, in its order; where there is no code they have 0.
+ghost use mathlib.Core.Path.{_≡_};
+ghost use Prim.Native.Nat.{_+_, _<_};
+ghost use Rattle.codes.specs.Code.{_·_, changeCode, wayDigit, addsDigit, wordDigit, longDigit, digit013, digit89B, extuDigit, extsDigit, firstDigit, nextDigit, dirDigit, abs8Digit};
+ghost use Rattle.encoder.specs.MirrorParts.{mk, mk1, byteCode, wordCode, longParts, regParts, immParts, aluParts, incDecParts, shiftParts, unaryParts, placeParts, moveParts, bccParts, targetParts, bsrParts, partsOf};
+use arith::Width;
+use codes::By;
+use codes::Change;
+use codes::Dir;
+use codes::Instruction;
+use codes::Op;
+use codes::Place;
+use codes::Reach;
+use codes::Single;
+use codes::Source;
+use codes::Target;
+use codes::Turn;
+use codes::Way;
+
+// What stands before the first word.
+pub enum Prefix {
+    Bare,
+    P0100,
+    P01F0,
+}
+
+// What follows the word: nothing, or a number of 16 or of 32 bits.
+pub enum Tail {
+    NoTail,
+    Tail16,
+    Tail32,
+}
+
+// A prefix, the two bytes of a word, and the number that follows.
+pub struct Parts {
+    pub prefix: Prefix,
+    pub a: u32,
+    pub b: u32,
+    pub tail: Tail,
+    pub v: u32,
+}
+
+fn made(prefix: Prefix, a: u32, b: u32, tail: Tail, v: u32) -> Parts
+    ensures { λ r. ⌜ r ≡ mk prefix a b tail v ⌝ }
+{
+    Parts {
+        prefix,
+        a,
+        b,
+        tail,
+        v,
+    }
+}
+
+// A code of one word
+fn one(a: u32, b: u32) -> Parts
+    ensures { λ r. ⌜ r ≡ mk1 a b ⌝ }
+{
+    made(Prefix::Bare, a, b, Tail::NoTail, 0)
+}
+
+fn wide(x: u8) -> u32
+    ensures { λ r. ⌜ (r ≡ x) × (r < 256) ⌝ }
+{
+    x as u32
+}
+
+// The byte of two digits
+fn digits(hi: u8, lo: u8) -> u32
+    ensures { λ r. ⌜ r ≡ hi · lo ⌝ }
+{
+    wide(hi) * 16 + wide(lo)
+}
+
+// and with `up` added to the upper one
+fn raised(up: u8, hi: u8, lo: u8) -> u32
+    ensures { λ r. ⌜ r ≡ (up + hi) · lo ⌝ }
+{
+    (wide(up) + wide(hi)) * 16 + wide(lo)
+}
+
+fn change_code(change: Change) -> u32
+    ensures { λ r. ⌜ r ≡ changeCode change ⌝ }
+{
+    match change {
+        Change::Orc => 0x04,
+        Change::Xorc => 0x05,
+        Change::Andc => 0x06,
+        Change::Ldc => 0x07,
+    }
+}
+
+fn byte_code(op: Op) -> u32
+    ensures { λ r. ⌜ r ≡ byteCode op ⌝ }
+{
+    match op {
+        Op::Add => 0x08,
+        Op::Sub => 0x18,
+        Op::Cmp => 0x1C,
+        Op::Mov => 0x0C,
+        Op::Addx => 0x0E,
+        Op::Subx => 0x1E,
+        Op::Or => 0x14,
+        Op::Xor => 0x15,
+        Op::And => 0x16,
+    }
+}
+
+fn word_code(op: Op) -> u32
+    ensures { λ r. ⌜ r ≡ wordCode op ⌝ }
+{
+    match op {
+        Op::Add => 0x09,
+        Op::Sub => 0x19,
+        Op::Cmp => 0x1D,
+        Op::Mov => 0x0D,
+        Op::Addx => 0,
+        Op::Subx => 0,
+        Op::Or => 0x64,
+        Op::Xor => 0x65,
+        Op::And => 0x66,
+    }
+}
+
+fn long_parts(op: Op, s: u8, d: u8) -> Parts
+    ensures { λ r. ⌜ r ≡ longParts op s d ⌝ }
+{
+    match op {
+        Op::Add => one(0x0A, raised(8, s, d)),
+        Op::Sub => one(0x1A, raised(8, s, d)),
+        Op::Cmp => one(0x1F, raised(8, s, d)),
+        Op::Mov => one(0x0F, raised(8, s, d)),
+        Op::Addx => one(0, 0),
+        Op::Subx => one(0, 0),
+        Op::Or => made(Prefix::P01F0, 0x64, digits(s, d), Tail::NoTail, 0),
+        Op::Xor => made(Prefix::P01F0, 0x65, digits(s, d), Tail::NoTail, 0),
+        Op::And => made(Prefix::P01F0, 0x66, digits(s, d), Tail::NoTail, 0),
+    }
+}
+
+fn reg_parts(op: Op, w: Width, s: u8, d: u8) -> Parts
+    ensures { λ r. ⌜ r ≡ regParts op w s d ⌝ }
+{
+    match w {
+        Width::Byte => one(byte_code(op), digits(s, d)),
+        Width::Word => one(word_code(op), digits(s, d)),
+        Width::Long => long_parts(op, s, d),
+    }
+}
+
+fn first_digit(op: Op) -> u8
+    ensures { λ r. ⌜ r ≡ firstDigit op ⌝ }
+{
+    match op {
+        Op::Add => 0x8,
+        Op::Addx => 0x9,
+        Op::Cmp => 0xA,
+        Op::Subx => 0xB,
+        Op::Or => 0xC,
+        Op::Xor => 0xD,
+        Op::And => 0xE,
+        Op::Mov => 0xF,
+        Op::Sub => 0,
+    }
+}
+
+fn next_digit(op: Op) -> u8
+    ensures { λ r. ⌜ r ≡ nextDigit op ⌝ }
+{
+    match op {
+        Op::Mov => 0,
+        Op::Add => 1,
+        Op::Cmp => 2,
+        Op::Sub => 3,
+        Op::Or => 4,
+        Op::Xor => 5,
+        Op::And => 6,
+        Op::Addx => 0,
+        Op::Subx => 0,
+    }
+}
+
+fn imm_parts(op: Op, w: Width, v: u32, d: u8) -> Parts
+    ensures { λ r. ⌜ r ≡ immParts op w v d ⌝ }
+{
+    match w {
+        Width::Byte => one(digits(first_digit(op), d), v),
+        Width::Word => made(
+            Prefix::Bare,
+            0x79,
+            digits(next_digit(op), d),
+            Tail::Tail16,
+            v,
+        ),
+        Width::Long => made(
+            Prefix::Bare,
+            0x7A,
+            digits(next_digit(op), d),
+            Tail::Tail32,
+            v,
+        ),
+    }
+}
+
+fn alu_parts(op: Op, w: Width, source: Source, d: u8) -> Parts
+    ensures { λ r. ⌜ r ≡ aluParts op w source d ⌝ }
+{
+    match source {
+        Source::Reg(s) => reg_parts(op, w, s, d),
+        Source::Imm(v) => imm_parts(op, w, v, d),
+    }
+}
+
+fn way_digit(way: Way) -> u8
+    ensures { λ r. ⌜ r ≡ wayDigit way ⌝ }
+{
+    match way {
+        Way::Up => 0,
+        Way::Down => 1,
+    }
+}
+
+fn adds_digit(by: By) -> u8
+    ensures { λ r. ⌜ r ≡ addsDigit by ⌝ }
+{
+    match by {
+        By::One => 0x0,
+        By::Two => 0x8,
+        By::Four => 0x9,
+    }
+}
+
+fn word_digit(by: By) -> u8
+    ensures { λ r. ⌜ r ≡ wordDigit by ⌝ }
+{
+    match by {
+        By::One => 0x5,
+        By::Two => 0xD,
+        By::Four => 0,
+    }
+}
+
+fn long_digit(by: By) -> u8
+    ensures { λ r. ⌜ r ≡ longDigit by ⌝ }
+{
+    match by {
+        By::One => 0x7,
+        By::Two => 0xF,
+        By::Four => 0,
+    }
+}
+
+fn inc_dec_parts(way: Way, w: Width, by: By, r: u8) -> Parts
+    ensures { λ p. ⌜ p ≡ incDecParts way w by r ⌝ }
+{
+    match w {
+        Width::Byte => one(digits(way_digit(way), 0xA), digits(0, r)),
+        Width::Word => one(digits(way_digit(way), 0xB), digits(word_digit(by), r)),
+        Width::Long => one(digits(way_digit(way), 0xB), digits(long_digit(by), r)),
+    }
+}
+
+fn digit_013(w: Width) -> u8
+    ensures { λ r. ⌜ r ≡ digit013 w ⌝ }
+{
+    match w {
+        Width::Byte => 0x0,
+        Width::Word => 0x1,
+        Width::Long => 0x3,
+    }
+}
+
+fn digit_89b(w: Width) -> u8
+    ensures { λ r. ⌜ r ≡ digit89B w ⌝ }
+{
+    match w {
+        Width::Byte => 0x8,
+        Width::Word => 0x9,
+        Width::Long => 0xB,
+    }
+}
+
+fn shift_parts(turn: Turn, w: Width, r: u8) -> Parts
+    ensures { λ p. ⌜ p ≡ shiftParts turn w r ⌝ }
+{
+    match turn {
+        Turn::Shll => one(0x10, digits(digit_013(w), r)),
+        Turn::Shlr => one(0x11, digits(digit_013(w), r)),
+        Turn::Rotxl => one(0x12, digits(digit_013(w), r)),
+        Turn::Rotxr => one(0x13, digits(digit_013(w), r)),
+        Turn::Shal => one(0x10, digits(digit_89b(w), r)),
+        Turn::Shar => one(0x11, digits(digit_89b(w), r)),
+        Turn::Rotl => one(0x12, digits(digit_89b(w), r)),
+        Turn::Rotr => one(0x13, digits(digit_89b(w), r)),
+    }
+}
+
+fn extu_digit(w: Width) -> u8
+    ensures { λ r. ⌜ r ≡ extuDigit w ⌝ }
+{
+    match w {
+        Width::Byte => 0,
+        Width::Word => 0x5,
+        Width::Long => 0x7,
+    }
+}
+
+fn exts_digit(w: Width) -> u8
+    ensures { λ r. ⌜ r ≡ extsDigit w ⌝ }
+{
+    match w {
+        Width::Byte => 0,
+        Width::Word => 0xD,
+        Width::Long => 0xF,
+    }
+}
+
+fn unary_parts(single: Single, w: Width, r: u8) -> Parts
+    ensures { λ p. ⌜ p ≡ unaryParts single w r ⌝ }
+{
+    match single {
+        Single::Not => one(0x17, digits(digit_013(w), r)),
+        Single::Neg => one(0x17, digits(digit_89b(w), r)),
+        Single::Extu => one(0x17, digits(extu_digit(w), r)),
+        Single::Exts => one(0x17, digits(exts_digit(w), r)),
+    }
+}
+
+fn dir_digit(dir: Dir) -> u8
+    ensures { λ r. ⌜ r ≡ dirDigit dir ⌝ }
+{
+    match dir {
+        Dir::Load => 0,
+        Dir::Store => 8,
+    }
+}
+
+fn abs8_digit(dir: Dir) -> u8
+    ensures { λ r. ⌜ r ≡ abs8Digit dir ⌝ }
+{
+    match dir {
+        Dir::Load => 2,
+        Dir::Store => 3,
+    }
+}
+
+// The first byte for a byte, and 1 more for a word or a long
+fn place_parts(prefix: Prefix, more: u8, dir: Dir, p: Place, r: u8) -> Parts
+    ensures { λ h. ⌜ h ≡ placeParts prefix more dir p r ⌝ }
+{
+    let k = dir_digit(dir);
+    match p {
+        Place::At(e) => made(prefix, 0x68 + wide(more), raised(k, e, r), Tail::NoTail, 0),
+        Place::Abs8(a) => made(prefix, digits(abs8_digit(dir), r), wide(a), Tail::NoTail, 0),
+        Place::Step(e) => made(prefix, 0x6C + wide(more), raised(k, e, r), Tail::NoTail, 0),
+        Place::Disp(e, d) => made(
+            prefix,
+            0x6E + wide(more),
+            raised(k, e, r),
+            Tail::Tail16,
+            d as u32,
+        ),
+        Place::Abs16(a) => made(
+            prefix,
+            0x6A + wide(more),
+            raised(k, 0, r),
+            Tail::Tail16,
+            a as u32,
+        ),
+        Place::Abs24(a) => made(prefix, 0x6A + wide(more), raised(k, 2, r), Tail::Tail32, a),
+    }
+}
+
+fn move_parts(dir: Dir, w: Width, p: Place, r: u8) -> Parts
+    ensures { λ h. ⌜ h ≡ moveParts dir w p r ⌝ }
+{
+    match w {
+        Width::Byte => place_parts(Prefix::Bare, 0, dir, p, r),
+        Width::Word => place_parts(Prefix::Bare, 1, dir, p, r),
+        Width::Long => place_parts(Prefix::P0100, 1, dir, p, r),
+    }
+}
+
+fn bcc_parts(c: u8, reach: Reach) -> Parts
+    ensures { λ h. ⌜ h ≡ bccParts c reach ⌝ }
+{
+    match reach {
+        Reach::Near(d) => one(digits(4, c), wide(d)),
+        Reach::Far(d) => made(Prefix::Bare, 0x58, digits(c, 0), Tail::Tail16, d as u32),
+    }
+}
+
+// JMP 59, 5A, 5B, and JSR with 4 more
+fn target_parts(more: u8, target: Target) -> Parts
+    ensures { λ h. ⌜ h ≡ targetParts more target ⌝ }
+{
+    match target {
+        Target::ByReg(e) => one(0x59 + wide(more), digits(e, 0)),
+        Target::Direct(a) => made(
+            Prefix::Bare,
+            0x5A + wide(more),
+            a / 65536,
+            Tail::Tail16,
+            a % 65536,
+        ),
+        Target::Vector(a) => one(0x5B + wide(more), wide(a)),
+    }
+}
+
+fn bsr_parts(reach: Reach) -> Parts
+    ensures { λ h. ⌜ h ≡ bsrParts reach ⌝ }
+{
+    match reach {
+        Reach::Near(d) => one(0x55, wide(d)),
+        Reach::Far(d) => made(Prefix::Bare, 0x5C, 0x00, Tail::Tail16, d as u32),
+    }
+}
+
+pub fn parts_of(i: Instruction) -> Parts
+    ensures { λ h. ⌜ h ≡ partsOf i ⌝ }
+{
+    match i {
+        Instruction::Nop => one(0x00, 0x00),
+        Instruction::Stc(r) => one(0x02, digits(0, r)),
+        Instruction::LdcReg(r) => one(0x03, digits(0, r)),
+        Instruction::Ccr(change, v) => one(change_code(change), wide(v)),
+        Instruction::Alu(op, w, source, d) => alu_parts(op, w, source, d),
+        Instruction::IncDec(way, w, by, r) => inc_dec_parts(way, w, by, r),
+        Instruction::AddsSubs(way, by, e) => one(
+            digits(way_digit(way), 0xB),
+            digits(adds_digit(by), e),
+        ),
+        Instruction::Decimal(way, r) => one(digits(way_digit(way), 0xF), digits(0, r)),
+        Instruction::Shift(turn, w, r) => shift_parts(turn, w, r),
+        Instruction::Unary(single, w, r) => unary_parts(single, w, r),
+        Instruction::Move(dir, w, p, r) => move_parts(dir, w, p, r),
+        Instruction::Bcc(c, reach) => bcc_parts(c, reach),
+        Instruction::Jmp(target) => target_parts(0, target),
+        Instruction::Bsr(reach) => bsr_parts(reach),
+        Instruction::Jsr(target) => target_parts(4, target),
+        Instruction::Rts => one(0x54, 0x70),
+    }
+}
