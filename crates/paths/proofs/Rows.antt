@@ -8,10 +8,7 @@ use Prim.Native.Nat.{ℕ, zero, suc, _+_, _%_, _^_, _≤_, _<_, min, max}
 use native.Mathlib.Nat.{max-eq-left, max-eq-right}
 use native.Mathlib.Omega.{arith}
 use lib.Dec.{eqb}
-<<<<<<< HEAD
-=======
 use lib.ListN.{getD}
->>>>>>> 5e1258d5dd872cadbd485d1e39543249f0622911
 use borrow.Author.Tests.{lt-ltb, le-ltb, le-leb, lt-leb}
 use Rattle.refusal.specs.declared.Refusal.{Refusal}
 use Rattle.refusal.specs.declared.Refusal.the-variants.{NotUpward}
@@ -53,11 +50,7 @@ module _ (flow : ℕ → Flow) (len : ℕ) (L : Listing flow len) (table : List 
   unwrapped x false z r = r
 
   -- the row of a place at i or above, where the table has those of the places from i up
-<<<<<<< HEAD
-  row-at : (i q : ℕ) → RowsFrom flow len table i → i ≤ q → IsPlace q → RowIs flow q (rowOf len table q)
-=======
   pub row-at : (i q : ℕ) → RowsFrom flow len table i → i ≤ q → IsPlace q → RowIs flow q (rowOf len table q)
->>>>>>> 5e1258d5dd872cadbd485d1e39543249f0622911
   unfolding rowOf
   row-at i q R h z = ⊎-elim (λ k. simp (le-ltb q len k) (row-outside flow len L k)) (λ k. simp (lt-ltb q len k) (R q h (z .even) k)) (le-or len q)
 
@@ -86,14 +79,11 @@ module _ (flow : ℕ → Flow) (len : ℕ) (L : Listing flow len) (table : List 
     pub row-reckoned : RowIs flow p (reckonedOf len table p (flow p))
     row-reckoned = row-flow (flow p) refl
 
-<<<<<<< HEAD
-=======
     -- so a table whose row of p is that one has the rows from p up
     pub rows-down : reckonedOf len table p (flow p) ≡ record { figure = getD table p 0; low = getD table (p + 1) 0 } → RowsFrom flow len table p
     rows-down e q h x l =
         ⊎-elim (λ (k : q ≤ p). let same : q ≡ p = omega arith in rw same (rw e at row-reckoned)) (λ (k : p < q). R q (omega (arith, z .even)) x l) (le-or q p)
 
->>>>>>> 5e1258d5dd872cadbd485d1e39543249f0622911
   -- followed from a clear place, the longest way has as many states as the place's figure
   module _ (R : RowsFrom flow len table 0) (next : ℕ → WayOn) (same : (p : ℕ) → IsPlace p → Clear flow p → next p ≡ onwardOf len table (flow p)) where
     largest-at : (q : ℕ) → IsPlace q → Clear flow q → Largest flow q (rowOf len table q .figure)
