@@ -68,13 +68,13 @@ pub data Done-or-not (r : Registers) (ram : List ℕ) : Stepped → Type 0 where
 
 module _ (r : Registers) (b : Board) (rom ram : List ℕ) where
   load-view : (w : Width) (d : ℕ) (raised : Registers) → (Whole r → Whole raised) → (g : Got) → ((f : Refusal) → g ≡ NotRead f → numberOf f ≡ 5)
-    → Done-or-not r ram (stepped (loadedOf g w d r raised) ram)
+      → Done-or-not r ram (stepped (loadedOf g w d r raised) ram)
   unfolding loadedOf
   load-view w d raised h (Value x) five = done _ ram refl (λ i. whole-condition _ _ (whole-part w raised d _ (h i)))
   load-view w d raised h (NotRead f) five = not-done f (by f 5 (five f refl) (omega arith) (omega arith))
 
   store-view : (w : Width) (a x : ℕ) (q : Registers) → (Whole r → Whole q) → (p : Put) → writeOf w b ram a x .put ≡ p
-    → Done-or-not r ram (stepped (storedOf (writeOf w b ram a x .put) r q) (writeOf w b ram a x .mem))
+      → Done-or-not r ram (stepped (storedOf (writeOf w b ram a x .put) r q) (writeOf w b ram a x .mem))
   unfolding storedOf
   store-view w a x q h Stored e = rw e (done q (writeOf w b ram a x .mem) (write-length w b ram a x) h)
   store-view w a x q h (NotStored f) e = rw (e, write-left w b ram a x f e) (not-done f (by f 6 (write-number w b ram a x f e) (omega arith) (omega arith)))
@@ -132,14 +132,14 @@ module _ (r : Registers) (b : Board) (rom ram : List ℕ) where
     outside : ltb (r .pc) (length rom) ≡ false → Comes (after (stays r (FetchOutside (r .pc))) ram)
     no-code : (f : Refusal) → ltb (r .pc) (length rom) ≡ true → decodeOf (r .pc) (drop (r .pc) rom) ≡ NoCode f → Comes (after (stays r f) ram)
     by-data : (i : Instruction) (n : ℕ) (f : Refusal) → ltb (r .pc) (length rom) ≡ true → decodeOf (r .pc) (drop (r .pc) rom) ≡ Code i n → ByData f
-      → Comes (after (stays r f) ram)
+        → Comes (after (stays r f) ram)
     completes : (i : Instruction) (n p : ℕ) (q : Registers) (m : List ℕ) → ltb (r .pc) (length rom) ≡ true → decodeOf (r .pc) (drop (r .pc) rom) ≡ Code i n
-      → followOf r b rom ram (goesOf i) (nextOf (r .pc) n) ≡ Value p → effectOf (nextOf (r .pc) n) r b rom ram i ≡ stepped (did q) m
-      → length m ≡ length ram → (Whole r → Whole q) → Comes (after (answered (withPc q p) (statesOf i) Done) m)
+        → followOf r b rom ram (goesOf i) (nextOf (r .pc) n) ≡ Value p → effectOf (nextOf (r .pc) n) r b rom ram i ≡ stepped (did q) m
+        → length m ≡ length ram → (Whole r → Whole q) → Comes (after (answered (withPc q p) (statesOf i) Done) m)
 
   module _ (i : Instruction) (n : ℕ) (l : ltb (r .pc) (length rom) ≡ true) (d : decodeOf (r .pc) (drop (r .pc) rom) ≡ Code i n) where
     finished : (p : ℕ) → followOf r b rom ram (goesOf i) (nextOf (r .pc) n) ≡ Value p → (s : Stepped) → effectOf (nextOf (r .pc) n) r b rom ram i ≡ s
-      → Done-or-not r ram s → Comes (after (finishOf (s .effect .outcome) r (s .effect .regs) p (statesOf i)) (s .mem))
+        → Done-or-not r ram s → Comes (after (finishOf (s .effect .outcome) r (s .effect .regs) p (statesOf i)) (s .mem))
     unfolding finishOf
     finished p g s e (done q m k h) = completes i n p q m l d g e k h
     finished p g s e (not-done f h) = by-data i n f l d h
@@ -193,7 +193,7 @@ module _ (r : Registers) (b : Board) (rom ram : List ℕ) where
       }
 
   stepped-by : (t : Bool) → goodBoard b (length rom) (length ram) && goodPc (r .pc) ≡ t → (f : Refusal) → stepOf b rom ram r .answer .outcome ≡ Refused f
-    → stepOf b rom ram r ≡ after (stays r f) ram
+      → stepOf b rom ram r ≡ after (stays r f) ram
   unfolding stepOf
   stepped-by true t f e = rw t (refused-stays _ (comes r b rom ram) f (rw t at e))
   stepped-by false t f e = let k = rw t at e in let h : BadBoard ≡ f = cc in rw (t, h)
