@@ -1,0 +1,12 @@
+use denote.Ref.{now}
+use mathlib.Core.Path.{sym}
+use lib.ListN.{List·getD-eq-default}
+use borrow.Author.Needs.{needs}
+use Rattle.paths.proofs.number_at.Statement.{statement}
+use Rattle.paths.proofs.number_at.Tie as tie
+
+pub number-at-spec : {M : Type 1} → statement M
+number-at-spec =
+    tie.close
+    (tie.spec (λ c. search needs) (λ c. search needs) (λ c. search needs)
+    (λ c. sym (List·getD-eq-default (now (c .before .args .table)) 0 (c .if1 .left))))
