@@ -1,6 +1,6 @@
 -- Document 01, "Numbers, flags and addresses": "Displacements are signed. A branch counts from the next instruction. Addresses are taken modulo 2^24. PC's lowest bit is cleared whenever PC is set."
 use mathlib.Core.Bool.{cond}
-use Prim.Native.Nat.{ℕ, _-_, _*_, _/_, _%_}
+use Prim.Native.Nat.{ℕ, _+_, _-_, _*_, _/_, _%_}
 use lib.IntN.{ℤ, pos, negsuc, _+ℤ_, _-ℤ_}
 use lib.Dec.{ltb}
 use Rattle.codes.specs.declared.Reach.{Reach}
@@ -26,6 +26,10 @@ even a = a / 2 * 2
 -- what PC holds when it is set to an address
 abbrev pub pcOf : ℕ → ℕ
 pcOf a = even (a % 16777216)
+
+-- the address of the next instruction, n bytes on
+abbrev pub nextOf : ℕ → ℕ → ℕ
+nextOf pc n = (pc + n) % 16777216
 
 -- the target of a branch whose next instruction is at `next`
 unfoldable pub targetOf : ℕ → Reach → ℕ

@@ -3,7 +3,7 @@ use codes::Reach;
 ghost use mathlib.Core.Path.{_≡_};
 ghost use Prim.Native.Nat.{_<_};
 ghost use lib.Signed.{mag};
-ghost use Rattle.flow.specs.Targets.{signed, displacementOf, targetOf, pcOf};
+ghost use Rattle.flow.specs.Targets.{signed, displacementOf, targetOf, pcOf, nextOf};
 
 // d:8 as a signed number.
 fn near(d: u8) -> i32
@@ -49,4 +49,11 @@ pub fn pc(a: u32) -> u32
     ensures { λ r. ⌜ r ≡ pcOf a ⌝ }
 {
     a % 16777216 / 2 * 2
+}
+
+// The address of the next instruction, n bytes on.
+pub fn next(pc: u32, n: usize) -> u32
+    ensures { λ r. ⌜ r ≡ nextOf pc n ⌝ }
+{
+    ((pc as usize + n % 16777216) % 16777216) as u32
 }

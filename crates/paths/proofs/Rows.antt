@@ -10,13 +10,14 @@ use native.Mathlib.Omega.{arith}
 use lib.Dec.{eqb}
 use borrow.Author.Tests.{lt-ltb, le-ltb, le-leb, lt-leb}
 use Rattle.refusal.specs.declared.Refusal.{Refusal}
+use Rattle.refusal.specs.declared.Refusal.the-variants.{NotUpward}
 use Rattle.paths.specs.declared.Reckoned.{Reckoned}
 use Rattle.paths.specs.declared.Flow.{Flow}
 use Rattle.paths.specs.declared.Flow.the-variants.{Next, Jump, Either, Ends, Stop}
 use Rattle.paths.specs.declared.WayOn.{WayOn}
 use Rattle.paths.specs.declared.WayOn.the-variants.{On, Home, NoWay}
 use Rattle.paths.specs.Paths.{IsPlace, Leads, countOf, Forbidden, stop, back, Open, Path, ends, goes, Largest, Clear, Row, RowsFrom, Follows, home, on}
-use Rattle.paths.specs.MirrorRows.{barred, rowOf, joined, upwardOf, reckonedOf, betterOf, onwardOf}
+use Rattle.paths.specs.MirrorRows.{barred, rowOf, joined, upwardOf, reckonedOf, whyOf, betterOf, onwardOf}
 use Rattle.paths.proofs.Laws.{le-or, Both, both-next, both-jump, both-either, Listing, up, no-way-stop, row-one, row-stop, row-ends, row-join, meets-in, row-outside, row-small, row-figure, clear-open, clear-on, clear-in, largest-one, largest-join, row-clear}
 
 abbrev RowIs : (ℕ → Flow) → ℕ → Reckoned → Type 0
@@ -26,6 +27,20 @@ RowIs flow p r = Row flow p (r .figure) (r .low)
 open-both : (flow : ℕ → Flow) {p : ℕ} (n t : ℕ) → Both (flow p) n t → p < n → p < t → Open flow p
 open-both flow n t B h k r (stop e) = no-way-stop flow e n (B .first)
 open-both flow n t B h k r (back {q = q} w l) = ⊎-elim (λ (e : q ≡ n). omega arith) (λ (e : q ≡ t). omega arith) (B .only q w)
+
+-- a forbidden place is forbidden by what the code says
+why-back : (q p : ℕ) (f : Flow) → Leads f q → whyOf p f ≡ NotUpward p
+unfolding whyOf
+why-back q p (Next n s) w = refl
+why-back q p (Jump t s) w = refl
+why-back q p (Either n t s) w = refl
+why-back q p (Ends s) w = refl
+why-back q p (Stop r) w = absurd w
+
+pub why-is : (flow : ℕ → Flow) {p : ℕ} {r : Refusal} → Forbidden flow p r → whyOf p (flow p) ≡ r
+unfolding whyOf
+why-is flow (stop e) = rw e
+why-is flow {p} (back {q = q} w h) = why-back q p (flow p) w
 
 module _ (flow : ℕ → Flow) (len : ℕ) (L : Listing flow len) (table : List ℕ) where
   -- a total of a row does not wrap

@@ -4,6 +4,8 @@ use mathlib.Core.Bool.{cond, _||_}
 use Prim.Native.Nat.{ℕ, _+_, _%_, _^_, min, max}
 use lib.ListN.{getD}
 use lib.Dec.{ltb, leb, eqb}
+use Rattle.refusal.specs.declared.Refusal.{Refusal}
+use Rattle.refusal.specs.declared.Refusal.the-variants.{NotUpward}
 use Rattle.paths.specs.declared.Reckoned.{Reckoned}
 use Rattle.paths.specs.declared.Flow.{Flow}
 use Rattle.paths.specs.declared.Flow.the-variants.{Next, Jump, Either, Ends, Stop}
@@ -30,6 +32,14 @@ reckonedOf len table p (Jump t s) = upwardOf len table p t t s
 reckonedOf len table p (Either n t s) = upwardOf len table p n t s
 reckonedOf len table p (Ends s) = record { figure = s; low = 16777215 }
 reckonedOf len table p (Stop r) = barred p
+
+-- why a place is forbidden, if it is
+unfoldable pub whyOf : ℕ → Flow → Refusal
+whyOf p (Next n s) = NotUpward p
+whyOf p (Jump t s) = NotUpward p
+whyOf p (Either n t s) = NotUpward p
+whyOf p (Ends s) = NotUpward p
+whyOf p (Stop r) = r
 
 -- where the longest way goes on
 unfoldable pub betterOf : ℕ → List ℕ → ℕ → ℕ → WayOn

@@ -5,7 +5,7 @@ ghost use mathlib.Core.Bool.{cond};
 ghost use Prim.Native.Nat.{min, max};
 ghost use lib.ListN.{getD};
 ghost use lib.Dec.{eqb};
-ghost use Rattle.paths.specs.MirrorRows.{barred, rowOf, joined, upwardOf, reckonedOf, betterOf, onwardOf};
+ghost use Rattle.paths.specs.MirrorRows.{barred, rowOf, joined, upwardOf, reckonedOf, whyOf, betterOf, onwardOf};
 
 // Where paths go from a place, with the states of what stands there.
 pub enum Flow {
@@ -135,6 +135,19 @@ pub fn reckon(len: usize, table: &[u64], p: u32, f: Flow) -> Reckoned
             low: NONE,
         },
         Flow::Stop(_) => bar(p),
+    }
+}
+
+// Why the place p with the flow f is forbidden, if it is.
+pub fn why(p: u32, f: Flow) -> Refusal
+    ensures { λ r. ⌜ r ≡ whyOf p f ⌝ }
+{
+    match f {
+        Flow::Next(_, _) => Refusal::NotUpward(p),
+        Flow::Jump(_, _) => Refusal::NotUpward(p),
+        Flow::Either(_, _, _) => Refusal::NotUpward(p),
+        Flow::Ends(_) => Refusal::NotUpward(p),
+        Flow::Stop(r) => r,
     }
 }
 
