@@ -49,7 +49,7 @@ module _ (flow : ℕ → Flow) (len : ℕ) (L : Listing flow len) (table : List 
   unwrapped x false z r = r
 
   -- the row of a place at i or above, where the table has those of the places from i up
-  row-at : (i q : ℕ) → RowsFrom flow len table i → i ≤ q → IsPlace q → RowIs flow q (rowOf len table q)
+  pub row-at : (i q : ℕ) → RowsFrom flow len table i → i ≤ q → IsPlace q → RowIs flow q (rowOf len table q)
   unfolding rowOf
   row-at i q R h z = ⊎-elim (λ k. simp (le-ltb q len k) (row-outside flow len L k)) (λ k. simp (lt-ltb q len k) (R q h (z .even) k)) (le-or len q)
 
