@@ -1,0 +1,61 @@
+-- What `way` answers, by a table that `figure` filled.
+-- Assumes nothing.
+use mathlib.Core.Path.{_≡_, refl, sym, subst, ap, _∙_}
+use mathlib.Core.List.{List}
+use Prim.Native.Nat.{ℕ, _%_, _≤_, _<_}
+use native.Mathlib.Omega.{arith}
+use lib.ListN.{length}
+use borrow.Author.Tests.{eq-eqb, ne-eqb, lt-ltb, le-leb}
+use Rattle.refusal.specs.declared.Refusal.{Refusal}
+use Rattle.codes.specs.Exact.{Bytes}
+use Rattle.paths.specs.declared.WayOn.{WayOn}
+use Rattle.paths.specs.declared.WayOn.the-variants.{NoWay}
+use Rattle.paths.specs.Paths.{IsPlace, Forbidden, Largest, Clear, Lowest, Row, figure, refused, RowsFrom, Follows}
+use Rattle.paths.specs.MirrorRows.{rowOf, onwardOf}
+use Rattle.paths.proofs.Laws.{Listing, row-one, row-clear, meets-in, clear-in}
+use Rattle.paths.proofs.Rows.{row-at, follows}
+use Rattle.listing.specs.Listing.{flowAt}
+use Rattle.listing.proofs.Listed.{listing}
+use Rattle.figure.specs.declared.Asked.the-variants.{Fit, Unfit}
+use Rattle.figure.specs.Answer.{askedOf}
+use Rattle.figure.specs.MirrorFigure.{whyAt, onFrom, wayAsked, wayOf}
+use Rattle.figure.specs.Longest.{WayTold}
+use Rattle.figure.proofs.Answered.{Good, fit-good, good-place, why-lowest}
+
+good-fit : {len lent entry : ℕ} → Good len lent entry → askedOf len lent entry ≡ Fit
+unfolding askedOf
+good-fit g = simp (eq-eqb _ _ (g .even), le-leb _ _ (g .small), eq-eqb _ _ (g .entry-even), lt-ltb _ _ (g .entry-in), le-leb _ _ (g .room))
+
+module _ (rom : List ℕ) (bytes : Bytes rom) (table : List ℕ) where
+  fit-way : (place : ℕ) → askedOf (length rom) (length table) place ≡ Fit → wayOf rom table place ≡ onFrom rom table place (rowOf (length rom) table place)
+  unfolding wayOf wayAsked
+  fit-way place e = rw e
+
+  pub unfit-way : (place : ℕ) (f : Refusal) → askedOf (length rom) (length table) place ≡ Unfit f → wayOf rom table place ≡ NoWay f
+  unfolding wayOf wayAsked
+  unfit-way place f e = rw e
+
+  module _ (even : length rom % 2 ≡ 0) (small : length rom ≤ 524288) (room : length rom ≤ length table) (R : RowsFrom (flowAt rom) (length rom) table 0) where
+    L : Listing (flowAt rom) (length rom)
+    L = listing rom bytes even small
+
+    clear-way : (p : ℕ) → IsPlace p → Clear (flowAt rom) p → wayOf rom table p ≡ onwardOf (length rom) table (flowAt rom p)
+    unfolding onFrom
+    clear-way p z c =
+        let r = row-at (flowAt rom) (length rom) L table 0 p R (omega arith) z in
+        fit-way p (good-fit (record { even = even; small = small; entry-even = z .even; entry-in = clear-in (flowAt rom) (length rom) L c; room = room }))
+        ∙ simp (eq-eqb (rowOf (length rom) table p .low) 16777215 (row-one (flowAt rom) r (figure c (row-clear (flowAt rom) r c)) .1))
+
+    refused-way : (p f : ℕ) (r : Refusal) → askedOf (length rom) (length table) p ≡ Fit → IsPlace p → Lowest (flowAt rom) p f → Forbidden (flowAt rom) f r → wayOf rom table p ≡ NoWay r
+    unfolding onFrom
+    refused-way p f r e z w b =
+        let h : f < 16777215 = meets-in (flowAt rom) (length rom) L z (w .met) in
+        let i : rowOf (length rom) table p .low ≡ f = row-one (flowAt rom) (row-at (flowAt rom) (length rom) L table 0 p R (omega arith) z) (refused w) .1 in
+        fit-way p e ∙ simp (i, ne-eqb f 16777215 (omega arith), why-lowest rom h b)
+
+  pub way-told : (place : ℕ) → WayTold rom table place
+  way-told place = record {
+    unfit = λ f e. unfit-way place f e;
+    longest = λ e R n c l. let g = fit-good (length rom) (length table) place e in follows (flowAt rom) (length rom) (L (g .even) (g .small) (g .room) R) table R (wayOf rom table) (clear-way (g .even) (g .small) (g .room) R) place n (good-place g) c l;
+    refused = λ e R f r w b. let g = fit-good (length rom) (length table) place e in refused-way (g .even) (g .small) (g .room) R place f r e (good-place g) w b;
+  }

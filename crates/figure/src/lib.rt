@@ -1,0 +1,134 @@
+// The routine's figure: the largest total of states over all paths from an entry to a return. Document 01, "The routine's figure".
+use paths::Reckoned;
+use paths::WayOn;
+use refusal::Refusal;
+ghost use mathlib.Core.Path.{_≡_};
+ghost use Prim.Native.Nat.{_%_, _≤_};
+ghost use lib.ListN.{length};
+ghost use Rattle.paths.specs.MirrorRows.{reckonedOf};
+ghost use Rattle.listing.specs.Listing.{flowAt};
+ghost use Rattle.figure.specs.Answer.{askedOf, Filled, Figured, RefusedExactly};
+ghost use Rattle.figure.specs.MirrorFigure.{whyAt, verdictOf, onFrom, wayOf};
+ghost use Rattle.figure.specs.Longest.{WayTold};
+
+// The figure, or a refusal.
+pub enum Verdict {
+    Longest(u64),
+    Forbids(Refusal),
+}
+
+// Whether the memory, the entry and the lent table are fit to be looked at: refusals 1, 8 and 13.
+pub enum Asked {
+    Fit,
+    Unfit(Refusal),
+}
+
+const NONE: u64 = 16777215;
+
+fn look(len: usize, lent: usize, entry: u32) -> Asked
+    ensures { λ r. ⌜ r ≡ askedOf len lent entry ⌝ }
+{
+    if len % 2 != 0 {
+        return Asked::Unfit(Refusal::BadBoard);
+    }
+    if 524288 < len {
+        return Asked::Unfit(Refusal::BadBoard);
+    }
+    if entry % 2 != 0 {
+        return Asked::Unfit(Refusal::BadEntry(entry));
+    }
+    let at = entry as usize;
+    if len <= at {
+        return Asked::Unfit(Refusal::BadEntry(entry));
+    }
+    if lent < len {
+        return Asked::Unfit(Refusal::LentTooShort(len as u32));
+    }
+    Asked::Fit
+}
+
+// The row of the place p, from the rows of the places above it.
+fn row(rom: &[u8], table: &[u64], p: u32) -> Reckoned
+    ensures { λ r. ⌜ r ≡ reckonedOf (length (now (rom .entry))) (now (table .entry)) p (flowAt (now (rom .entry)) p) ⌝ }
+{
+    let f = listing::flow_at(rom, p);
+    paths::reckon(rom.len(), table, p, f)
+}
+
+// Fills the table in one pass, from the highest place down.
+fn fill(rom: &[u8], table: &mut [u64])
+    requires { ⌜ (length (now rom) % 2 ≡ 0) × (length (now rom) ≤ 524288) × (length (now rom) ≤ length (now table)) ⌝ }
+    ensures { λ r. ⌜ Filled (now (rom .entry)) (now (table .entry)) (now (table .exit)) ⌝ }
+{
+    let mut p = rom.len();
+    while 0 < p {
+        p -= 2;
+        let r = row(rom, table, p as u32);
+        let figure = r.figure;
+        let low = r.low;
+        table[p] = figure;
+        table[p + 1] = low;
+    }
+}
+
+// Why the lowest forbidden place is forbidden.
+fn why_at(rom: &[u8], low: u64) -> Refusal
+    ensures { λ r. ⌜ r ≡ whyAt (now (rom .entry)) low ⌝ }
+{
+    let p = (low % 16777216) as u32;
+    let f = listing::flow_at(rom, p);
+    paths::why(p, f)
+}
+
+// The answer by a row.
+fn told(rom: &[u8], r: Reckoned) -> Verdict
+    ensures { λ v. ⌜ v ≡ verdictOf (now (rom .entry)) r ⌝ }
+{
+    let low = r.low;
+    if low == NONE {
+        return Verdict::Longest(r.figure);
+    }
+    Verdict::Forbids(why_at(rom, low))
+}
+
+pub fn figure(rom: &[u8], entry: u32, table: &mut [u64]) -> Verdict
+    ensures answer { λ r. ⌜ Figured (now (rom .entry)) entry (now (table .entry)) r (now (table .exit)) ⌝ }
+    ensures exact { λ r. ⌜ RefusedExactly (now (rom .entry)) entry (now (table .entry)) r ⌝ }
+{
+    let a = look(rom.len(), table.len(), entry);
+    match a {
+        Asked::Fit => {
+            fill(rom, table);
+            let r = paths::row_of(rom.len(), table, entry);
+            told(rom, r)
+        }
+        Asked::Unfit(f) => Verdict::Forbids(f),
+    }
+}
+
+// The longest way from a place by its row.
+fn on_from(rom: &[u8], table: &[u64], place: u32, r: Reckoned) -> WayOn
+    ensures { λ w. ⌜ w ≡ onFrom (now (rom .entry)) (now (table .entry)) place r ⌝ }
+{
+    let low = r.low;
+    if low == NONE {
+        let f = listing::flow_at(rom, place);
+        return paths::onward(rom.len(), table, f);
+    }
+    WayOn::NoWay(why_at(rom, low))
+}
+
+// Where the longest path from a place goes next, by a table that `figure` filled.
+pub fn way(rom: &[u8], table: &[u64], place: u32) -> WayOn
+    ensures answer { λ r. ⌜ r ≡ wayOf (now (rom .entry)) (now (table .entry)) place ⌝ }
+    ensures longest { λ r. ⌜ WayTold (now (rom .entry)) (now (table .entry)) place ⌝ }
+{
+    let a = look(rom.len(), table.len(), place);
+    match a {
+        Asked::Fit => {
+            let r = paths::row_of(rom.len(), table, place);
+            on_from(rom, table, place, r)
+        }
+        Asked::Unfit(f) => WayOn::NoWay(f),
+    }
+}

@@ -1,0 +1,48 @@
+-- Document 01, "The routine's figure": where paths go from a place. Of all that is said of paths, this alone knows the instruction set.
+use mathlib.Core.Bool.{cond}
+use mathlib.Core.List.{List}
+use Prim.Native.Nat.{ℕ}
+use lib.ListN.{length, drop}
+use lib.Dec.{leb, eqb}
+use Rattle.refusal.specs.declared.Refusal.the-variants.{FetchOutside, NotFollowed}
+use Rattle.codes.specs.States.{statesOf, goesOf}
+use Rattle.codes.specs.declared.Goes.{Goes}
+use Rattle.codes.specs.declared.Goes.the-variants.{Onward, Branches, Jumps, CallsNear, Calls, Returns}
+use Rattle.codes.specs.declared.Target.{Target}
+use Rattle.codes.specs.declared.Target.the-variants.{ByReg, Direct, Vector}
+use Rattle.codes.specs.declared.Decoded.{Decoded}
+use Rattle.codes.specs.declared.Decoded.the-variants.{Code, NoCode}
+use Rattle.decoder.specs.MirrorDecode.{decodeOf}
+use Rattle.flow.specs.Targets.{pcOf, nextOf, targetOf}
+use Rattle.paths.specs.declared.Flow.{Flow}
+use Rattle.paths.specs.declared.Flow.the-variants.{Next, Jump, Either, Ends, Stop}
+
+-- by its condition's digit: BRA to its target only, BRN to the next only, other conditions to both
+unfoldable pub branchFlow : ℕ → ℕ → ℕ → ℕ → Flow
+branchFlow c next target s = cond (eqb c 0) (Jump target s) (cond (eqb c 1) (Next next s) (Either next target s))
+
+-- JMP aa:24 to its target only; JMP 59 and JMP 5B are not followed
+unfoldable pub jumpFlow : ℕ → Target → ℕ → Flow
+jumpFlow p (ByReg e) s = Stop (NotFollowed p)
+jumpFlow p (Direct a) s = Jump (pcOf a) s
+jumpFlow p (Vector a) s = Stop (NotFollowed p)
+
+-- of s states, at p; a call is not followed
+unfoldable pub goesFlow : ℕ → ℕ → ℕ → Goes → Flow
+goesFlow p next s Onward = Next next s
+goesFlow p next s (Branches c reach) = branchFlow c next (targetOf next reach) s
+goesFlow p next s (Jumps target) = jumpFlow p target s
+goesFlow p next s (CallsNear reach) = Stop (NotFollowed p)
+goesFlow p next s (Calls target) = Stop (NotFollowed p)
+goesFlow p next s Returns = Ends s
+
+unfoldable pub foundFlow : ℕ → Decoded → Flow
+foundFlow p (Code i n) = goesFlow p (nextOf p n) (statesOf i) (goesOf i)
+foundFlow p (NoCode r) = Stop r
+
+-- what stands at p: the bytes from there to the end of that memory are decoded
+unfoldable pub decodedAt : List ℕ → ℕ → Decoded
+decodedAt rom p = decodeOf p (drop p rom)
+
+unfoldable pub flowAt : List ℕ → ℕ → Flow
+flowAt rom p = cond (leb (length rom) p) (Stop (FetchOutside p)) (foundFlow p (decodedAt rom p))
