@@ -8,6 +8,7 @@ use Prim.Native.Nat.{ℕ, zero, suc, _+_, _%_, _^_, _≤_, _<_, min, max}
 use native.Mathlib.Nat.{max-eq-left, max-eq-right}
 use native.Mathlib.Omega.{arith}
 use lib.Dec.{eqb}
+use lib.ListN.{getD}
 use borrow.Author.Tests.{lt-ltb, le-ltb, le-leb, lt-leb}
 use Rattle.refusal.specs.declared.Refusal.{Refusal}
 use Rattle.refusal.specs.declared.Refusal.the-variants.{NotUpward}
@@ -77,6 +78,11 @@ module _ (flow : ℕ → Flow) (len : ℕ) (L : Listing flow len) (table : List 
     -- the row of p from those of the places above it
     pub row-reckoned : RowIs flow p (reckonedOf len table p (flow p))
     row-reckoned = row-flow (flow p) refl
+
+    -- so a table whose row of p is that one has the rows from p up
+    pub rows-down : reckonedOf len table p (flow p) ≡ record { figure = getD table p 0; low = getD table (p + 1) 0 } → RowsFrom flow len table p
+    rows-down e q h x l =
+        ⊎-elim (λ (k : q ≤ p). let same : q ≡ p = omega arith in rw same (rw e at row-reckoned)) (λ (k : p < q). R q (omega (arith, z .even)) x l) (le-or q p)
 
   -- followed from a clear place, the longest way has as many states as the place's figure
   module _ (R : RowsFrom flow len table 0) (next : ℕ → WayOn) (same : (p : ℕ) → IsPlace p → Clear flow p → next p ≡ onwardOf len table (flow p)) where

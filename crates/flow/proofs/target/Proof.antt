@@ -1,0 +1,21 @@
+use mathlib.Core.Path.{ap, _∙_}
+use Prim.Native.Nat.{_/_, _*_}
+use lib.IntN.{ℤ, pos, _+ℤ_}
+use Rattle.flow.specs.Targets.{addressOf, targetOf}
+use Rattle.flow.proofs.Signed as law
+use native.Mathlib.Omega.{arith}
+use borrow.Author.Needs.{needs}
+use Rattle.flow.proofs.target.Statement.{statement}
+use Rattle.flow.proofs.target.Tie as tie
+
+pub target-spec : {M : Type 1} → statement M
+unfolding targetOf
+target-spec =
+    tie.close
+    (tie.spec (λ c κs. search needs) (λ c. search needs)
+    (λ c. let d = c .displacement in let s = c .before in law.by-fits (s .args .next) (d .result) (omega arith) (d .ensures .1))
+    (λ c. let d = c .displacement in let s = c .before in law.sum-fits (s .args .next) (d .result) (omega arith) (d .ensures .1))
+    (λ c. let d = c .displacement in let s = c .before in law.raised-fits (s .args .next) (d .result) (omega arith) (d .ensures .1))
+    (λ c. let d = c .displacement in let s = c .before in law.read-fits (s .args .next) (d .result) (omega arith) (d .ensures .1))
+    (λ c. search needs) (λ c. search needs)
+    (λ c. let d = c .displacement in let s = c .before in law.address-is (s .args .next) (d .result) (omega arith) (d .ensures .1) ∙ ap (λ (z : ℤ). addressOf (pos (s .args .next) +ℤ z) / 2 * 2) (d .ensures .0)))
