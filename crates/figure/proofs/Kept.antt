@@ -9,7 +9,8 @@ use Rattle.refusal.specs.declared.Refusal.{Refusal}
 use Rattle.codes.specs.Exact.{Bytes}
 use Rattle.paths.specs.declared.Flow.the-variants.{Stop}
 use Rattle.paths.specs.Paths.{IsPlace, Clear, Largest}
-use Rattle.paths.specs.Runs.{Machine, Bounded}
+use Rattle.machine.specs.Machine.{Machine}
+use Rattle.paths.specs.Runs.{Bounded}
 use Rattle.paths.proofs.Sound.{Stepped, bounded}
 use Rattle.listing.specs.Listing.{flowAt}
 use Rattle.listing.proofs.Listed.{listing}

@@ -12,7 +12,8 @@ use Rattle.paths.specs.Runs.{Ending, Run}
 use Rattle.paths.proofs.Sound.{OneStep, run-one}
 use Rattle.figure.specs.declared.Verdict.{Verdict}
 use Rattle.figure.specs.Answer.{Figured, RefusedExactly}
-use Rattle.figure.specs.Bound.{State, processor, RunsKept}
+use Rattle.step.specs.Processor.{State, processor}
+use Rattle.figure.specs.Bound.{RunsKept}
 use Rattle.figure.proofs.Answered.{exactly}
 use Rattle.figure.proofs.Kept.{kept}
 use Rattle.figure.proofs.Steps.{Kept, goes-where}

@@ -42,11 +42,10 @@ use Rattle.step.proofs.Laws.{Comes, outside, no-code, completes, comes, step-is
 use Rattle.paths.specs.declared.Flow.{Flow}
 use Rattle.paths.specs.declared.Flow.the-variants.{Next, Jump, Either, Ends, Stop}
 use Rattle.paths.specs.Paths.{IsPlace, Leads, countOf}
-use Rattle.paths.specs.Runs.{Machine, ByData}
 use Rattle.paths.proofs.Laws.{le-or}
 use Rattle.paths.proofs.Sound.{Stepped, back-home, went, by-data, OneStep}
 use Rattle.listing.specs.Listing.{branchFlow, jumpFlow, goesFlow, foundFlow, decodedAt, flowAt}
-use Rattle.figure.specs.Bound.{State, processor}
+use Rattle.step.specs.Processor.{State, processor}
 
 five-six-seven : (n : ℕ) → 5 ≤ n → n ≤ 7 → (n ≡ 5) ⊎ (n ≡ 6) ⊎ (n ≡ 7)
 five-six-seven n l m = ⊎-elim (λ (h : n ≤ 5). inl (omega arith)) (λ (h : 5 < n). inr (⊎-elim (λ (k : n ≤ 6). inl (omega arith)) (λ (k : 6 < n). inr (omega arith)) (le-or n 6))) (le-or n 5)
@@ -126,6 +125,7 @@ module _ (b : Board) (rom : List ℕ) (bytes : Bytes rom) where
 
       -- RTS stands at PC exactly if the instruction there returns
       returns-not : (goesOf i ≡ Returns → ⊥) → processor b rom .AtReturn s → ⊥
+      unfolding decodedAt
       returns-not out (j, m, e, g) = let h : i ≡ j = cc in out (rw h g)
 
       counts : (g : Goes) → ((f : Refusal) → goesFlow pc (nextOf pc n) (statesOf i) g ≡ Stop f → ⊥) → statesOf i ≤ countOf (goesFlow pc (nextOf pc n) (statesOf i) g)
@@ -152,7 +152,7 @@ module _ (b : Board) (rom : List ℕ) (bytes : Bytes rom) where
             (went {t = record { regs = withPc q p; mem = m }} (returns-not (λ x. out (sym h ∙ x))) step (rw same kept) (leads g clear out p e) (counts g clear))
 
         completed : (g : Goes) → goesOf i ≡ g → followOf r b rom (s .mem) g (nextOf pc n) ≡ Value p → Stepped (processor b rom) Kept (flowAt rom pc) s
-        unfolding goesFlow
+        unfolding goesFlow decodedAt
         completed Onward h e = goes-on Onward h (λ x. let z : _≡_ {A = ℕ} 0 1 = cc in omega arith) e
         completed (Branches c reach) h e = goes-on (Branches c reach) h (λ x. let z : _≡_ {A = ℕ} 0 1 = cc in omega arith) e
         completed (Jumps t) h e = goes-on (Jumps t) h (λ x. let z : _≡_ {A = ℕ} 0 1 = cc in omega arith) e

@@ -3,26 +3,22 @@
 use mathlib.Core.Path.{_≡_}
 use mathlib.Core.Logic.{_⊎_}
 use Prim.Native.Nat.{ℕ, _+_, _*_, _≤_}
+use Rattle.machine.specs.Machine.{Machine, Steps}
 use Rattle.refusal.specs.declared.Refusal.{Refusal}
 use Rattle.refusal.specs.Refusals.{numberOf}
-
--- what a run sees of a machine: PC of a state; a step that completes, with its states; a step that is refused; and whether RTS stands at PC
-pub record Machine : Type 1 where
-  pub State : Type 0
-  pub pc : State → ℕ
-  pub Does : State → State → ℕ → Type 0
-  pub Refuses : State → Refusal → Type 0
-  pub AtReturn : State → Type 0
 
 pub data Ending : Type 0 where
   returned : Ending
   stopped : Refusal → Ending
 
--- a run from a state: its steps, the sum of their states, and how it ends
+-- no return stands at PC
+abbrev pub Off : (M : Machine) → M .State → Type 0
+Off M s = M .AtReturn s → ⊥
+
+-- a run from a state: its steps, the sum of their states, and how it ends. Its first return completes, or a step is refused, which adds neither
 pub data Run (M : Machine) : M .State → ℕ → ℕ → Ending → Type 0 where
-  returns : {s t : M .State} {n : ℕ} → M .AtReturn s → M .Does s t n → Run M s 1 n returned
-  stops : {s : M .State} {r : Refusal} → M .Refuses s r → Run M s 0 0 (stopped r)
-  goes : {s t : M .State} {n c m : ℕ} {e : Ending} → (M .AtReturn s → ⊥) → M .Does s t n → Run M t c m e → Run M s (c + 1) (n + m) e
+  returns : {s t u : M .State} {c m n : ℕ} → Steps M (Off M) s c m t → M .AtReturn t → M .Does t u n → Run M s (c + 1) (m + n) returned
+  stops : {s t : M .State} {c m : ℕ} {r : Refusal} → Steps M (Off M) s c m t → M .Refuses t r → Run M s c m (stopped r)
 
 -- refused by a data access (5, 6) or a decimal adjustment (7)
 abbrev pub ByData : Refusal → Type 0

@@ -1,2 +1,3 @@
 pub mod Follow
 pub mod Step
+pub mod Processor

@@ -1,0 +1,16 @@
+-- What a run sees of a machine, and the repeated step. The budgeted run and the runs that a figure speaks of are both said by `Steps`.
+use Prim.Native.Nat.{ℕ, _+_}
+use Rattle.refusal.specs.declared.Refusal.{Refusal}
+
+-- PC of a state; a step that completes, with its states; a step that is refused; and whether a return (RTS) stands at PC
+pub record Machine : Type 1 where
+  pub State : Type 0
+  pub pc : State → ℕ
+  pub Does : State → State → ℕ → Type 0
+  pub Refuses : State → Refusal → Type 0
+  pub AtReturn : State → Type 0
+
+-- c steps with m states lead from s to t, each from a state that `Through` lets pass
+pub data Steps (M : Machine) (Through : M .State → Type 0) : M .State → ℕ → ℕ → M .State → Type 0 where
+  none : {s : M .State} → Steps M Through s 0 0 s
+  more : {s t u : M .State} {n c m : ℕ} → Through s → M .Does s t n → Steps M Through t c m u → Steps M Through s (c + 1) (n + m) u
