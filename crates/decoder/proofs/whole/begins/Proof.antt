@@ -1,6 +1,6 @@
 use borrow.Author.Needs.{needs}
 use borrow.Author.Tests.{eq-eqb, ne-eqb}
-use Rattle.decoder.proofs.Lists.{rest2}
+use Rattle.codes.proofs.Laws.{rest-of}
 use Rattle.decoder.proofs.whole.begins.Statement.{statement}
 use Rattle.decoder.proofs.whole.begins.Tie as tie
 
@@ -16,7 +16,7 @@ begins-spec =
       ne-eqb _ _ (c .before .before .before .before .before .if2 .left),
       eq-eqb _ _ (c .before .before .before .if3 .taken),
     )
-    (simp rest2 at (c .prefixed .ensures)))
+    (simp rest-of at (c .prefixed .ensures)))
     (λ c. search needs) (λ c. search needs) (λ c κs. search needs) (λ c. search needs) (λ c. search needs) (λ c. search needs)
     (λ c κs. search needs)
     (λ c.
@@ -25,4 +25,4 @@ begins-spec =
       ne-eqb _ _ (c .before .before .before .before .before .before .before .if2 .left),
       ne-eqb _ _ (c .before .before .before .before .before .if3 .left),
     )
-    (simp (rest2, c .before .before .first-word .ensures) at (c .finish .ensures))))
+    (simp (rest-of, c .before .before .first-word .ensures) at (c .finish .ensures))))

@@ -1,6 +1,6 @@
 use borrow.Author.Needs.{needs}
 use borrow.Author.Tests.{eq-eqb, ne-eqb}
-use Rattle.decoder.proofs.Lists.{rest2}
+use Rattle.codes.proofs.Laws.{rest-of}
 use Rattle.decoder.proofs.whole.prefixed.Statement.{statement}
 use Rattle.decoder.proofs.whole.prefixed.Tie as tie
 
@@ -21,6 +21,6 @@ prefixed-spec =
       ne-eqb _ _ (c .before .before .before .before .before .before .if1 .left),
       ne-eqb _ _ (c .before .before .before .before .before .if2 .left),
       c .finish .ensures,
-      rest2,
+      rest-of,
       c .before .before .second-word2 .ensures,
     )))
