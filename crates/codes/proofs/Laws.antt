@@ -1,9 +1,10 @@
 -- Laws over the code list and the states, for callers: every code has 2, 4, 6 or 8 bytes, each below 256; an instruction takes 2 to 12 states.
-use Prim.Native.Nat.{ℕ, zero, suc, _%_, _≤_, _<_}
+use Prim.Native.Nat.{ℕ, zero, suc, _-_, _%_, _≤_, _<_}
 use mathlib.Core.Path.{_≡_}
 use mathlib.Core.List.{List, [], _∷_}
 use native.Mathlib.Omega.{arith}
-use lib.ListN.{length, getD, drop}
+use lib.ListN.{length, getD, take, drop, length-drop}
+use lib.Seq.{take-all}
 use Rattle.codes.specs.Names.{Width, Byte, Word, Long, Op, Add, Sub, Cmp, Mov, Addx, Subx, Or, Xor, And, Source, Reg, Imm, Way, Up, Down, By, One, Two, Four}
 use Rattle.codes.specs.Names.{Turn, Shll, Shlr, Rotxl, Rotxr, Shal, Shar, Rotl, Rotr, Single, Not, Neg, Extu, Exts, Change, Orc, Xorc, Andc, Ldc}
 use Rattle.codes.specs.Names.{Dir, Load, Store, Place, At, Step, Disp, Abs8, Abs16, Abs24, Reach, Near, Far, Target, ByReg, Direct, Vector}
@@ -278,3 +279,7 @@ pub bytes-drop : (k : ℕ) (s : List ℕ) → Bytes s → Bytes (drop k s)
 bytes-drop zero s h = h
 bytes-drop (suc k) [] h = tt
 bytes-drop (suc k) (x ∷ s) h = bytes-drop k s (h .1)
+
+-- what `&s[k..]` lends is the list from k on
+pub rest-of : (k : ℕ) (s : List ℕ) → take (length s - k) (drop k s) ≡ drop k s
+rest-of k s = take-all (length s - k) (drop k s) (omega (arith, length-drop k s))

@@ -1,5 +1,4 @@
 -- What callers may cite: `Laws`. The others lead to it.
-mod Lists
 mod Shape
 mod Complete
 mod Good

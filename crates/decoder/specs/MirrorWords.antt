@@ -1,4 +1,4 @@
--- What the words of a code say, case by case as the code of `src/words.rt` does. Nothing here is to be believed: `proofs/` shows that it is the
+-- What the words of a code say, case by case as the code of `src/plan.rt` and `src/words.rt` does. Nothing here is to be believed: `proofs/` shows that it is the
 -- code list, read backwards.
 use Prim.Native.Nat.{ℕ, _-_, _/_, _%_}
 use mathlib.Core.Bool.{Bool, true, false}

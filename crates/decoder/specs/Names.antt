@@ -34,12 +34,12 @@ pub use Rattle.codes.specs.declared.Encoded.the-variants.{Written, NotWritten}
 pub use Rattle.refusal.specs.declared.Refusal.{Refusal}
 pub use Rattle.refusal.specs.declared.Refusal.the-variants.{UnknownCode, CutShort, NotInstruction, LentTooShort}
 -- and of the decoder's own parts, to the files here
-pub use Rattle.decoder.specs.declared.words.Rest.{Rest}
-pub use Rattle.decoder.specs.declared.words.Rest.the-variants.{Imm16, Imm32, Disp16, Aa16, Aa24, Bcc16, Bsr16, Jmp24, Jsr24}
-pub use Rattle.decoder.specs.declared.words.Plan.{Plan}
-pub use Rattle.decoder.specs.declared.words.Plan.the-variants.{Whole, Lacks, Nothing}
-pub use Rattle.decoder.specs.declared.words.Mode.{Mode}
-pub use Rattle.decoder.specs.declared.words.Mode.the-variants.{Plain, Stepping, Displaced, Absolute}
+pub use Rattle.decoder.specs.declared.plan.Rest.{Rest}
+pub use Rattle.decoder.specs.declared.plan.Rest.the-variants.{Imm16, Imm32, Disp16, Aa16, Aa24, Bcc16, Bsr16, Jmp24, Jsr24}
+pub use Rattle.decoder.specs.declared.plan.Plan.{Plan}
+pub use Rattle.decoder.specs.declared.plan.Plan.the-variants.{Whole, Lacks, Nothing}
+pub use Rattle.decoder.specs.declared.plan.Mode.{Mode}
+pub use Rattle.decoder.specs.declared.plan.Mode.the-variants.{Plain, Stepping, Displaced, Absolute}
 pub use Rattle.decoder.specs.declared.whole.Tail.{Tail}
 pub use Rattle.decoder.specs.declared.whole.Tail.the-variants.{Bits16, Bits24, Bits32}
 pub use Rattle.decoder.specs.declared.whole.Found.{Found}

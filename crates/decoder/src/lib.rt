@@ -6,6 +6,7 @@ use crate::whole::Found;
 use codes::Decoded;
 use refusal::Refusal;
 
+mod plan;
 mod whole;
 mod words;
 

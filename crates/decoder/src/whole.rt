@@ -2,8 +2,8 @@
 ghost use mathlib.Core.Path.{_≡_};
 ghost use Prim.Native.Nat.{_<_};
 ghost use Rattle.decoder.specs.MirrorDecode.{tailOf, fillOf, with16, with24, with32, byTail, finishOf, begunOf, startsOf, prefixOf, prefixedOf, foundOf};
-use crate::words::Plan;
-use crate::words::Rest;
+use crate::plan::Plan;
+use crate::plan::Rest;
 use arith::Width;
 use codes::Instruction;
 use codes::Place;

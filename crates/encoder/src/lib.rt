@@ -5,6 +5,7 @@ use codes::Instruction;
 use refusal::Refusal;
 
 mod parts;
+mod tables;
 mod valid;
 mod write;
 

@@ -1,8 +1,9 @@
-// The parts of an instruction's code. The tables are those of the code list, in its order; where there is no code they have 0.
+// The parts of an instruction's code, group by group as in the code list.
 ghost use mathlib.Core.Path.{_≡_};
 ghost use Prim.Native.Nat.{_+_, _<_};
-ghost use Rattle.codes.specs.Code.{_·_, changeCode, wayDigit, addsDigit, wordDigit, longDigit, digit013, digit89B, extuDigit, extsDigit, firstDigit, nextDigit, dirDigit, abs8Digit};
-ghost use Rattle.encoder.specs.MirrorParts.{mk, mk1, byteCode, wordCode, longParts, regParts, immParts, aluParts, incDecParts, shiftParts, unaryParts, placeParts, moveParts, bccParts, targetParts, bsrParts, partsOf};
+ghost use Rattle.codes.specs.Code.{_·_};
+ghost use Rattle.encoder.specs.MirrorParts.{mk, mk1, longParts, regParts, immParts, aluParts, incDecParts, shiftParts, unaryParts, placeParts, moveParts, bccParts, targetParts, bsrParts, partsOf};
+use crate::tables;
 use arith::Width;
 use codes::By;
 use codes::Change;
@@ -79,49 +80,6 @@ fn raised(up: u8, hi: u8, lo: u8) -> u32
     (wide(up) + wide(hi)) * 16 + wide(lo)
 }
 
-fn change_code(change: Change) -> u32
-    ensures { λ r. ⌜ r ≡ changeCode change ⌝ }
-{
-    match change {
-        Change::Orc => 0x04,
-        Change::Xorc => 0x05,
-        Change::Andc => 0x06,
-        Change::Ldc => 0x07,
-    }
-}
-
-fn byte_code(op: Op) -> u32
-    ensures { λ r. ⌜ r ≡ byteCode op ⌝ }
-{
-    match op {
-        Op::Add => 0x08,
-        Op::Sub => 0x18,
-        Op::Cmp => 0x1C,
-        Op::Mov => 0x0C,
-        Op::Addx => 0x0E,
-        Op::Subx => 0x1E,
-        Op::Or => 0x14,
-        Op::Xor => 0x15,
-        Op::And => 0x16,
-    }
-}
-
-fn word_code(op: Op) -> u32
-    ensures { λ r. ⌜ r ≡ wordCode op ⌝ }
-{
-    match op {
-        Op::Add => 0x09,
-        Op::Sub => 0x19,
-        Op::Cmp => 0x1D,
-        Op::Mov => 0x0D,
-        Op::Addx => 0,
-        Op::Subx => 0,
-        Op::Or => 0x64,
-        Op::Xor => 0x65,
-        Op::And => 0x66,
-    }
-}
-
 fn long_parts(op: Op, s: u8, d: u8) -> Parts
     ensures { λ r. ⌜ r ≡ longParts op s d ⌝ }
 {
@@ -142,41 +100,9 @@ fn reg_parts(op: Op, w: Width, s: u8, d: u8) -> Parts
     ensures { λ r. ⌜ r ≡ regParts op w s d ⌝ }
 {
     match w {
-        Width::Byte => one(byte_code(op), digits(s, d)),
-        Width::Word => one(word_code(op), digits(s, d)),
+        Width::Byte => one(tables::byte_code(op), digits(s, d)),
+        Width::Word => one(tables::word_code(op), digits(s, d)),
         Width::Long => long_parts(op, s, d),
-    }
-}
-
-fn first_digit(op: Op) -> u8
-    ensures { λ r. ⌜ r ≡ firstDigit op ⌝ }
-{
-    match op {
-        Op::Add => 0x8,
-        Op::Addx => 0x9,
-        Op::Cmp => 0xA,
-        Op::Subx => 0xB,
-        Op::Or => 0xC,
-        Op::Xor => 0xD,
-        Op::And => 0xE,
-        Op::Mov => 0xF,
-        Op::Sub => 0,
-    }
-}
-
-fn next_digit(op: Op) -> u8
-    ensures { λ r. ⌜ r ≡ nextDigit op ⌝ }
-{
-    match op {
-        Op::Mov => 0,
-        Op::Add => 1,
-        Op::Cmp => 2,
-        Op::Sub => 3,
-        Op::Or => 4,
-        Op::Xor => 5,
-        Op::And => 6,
-        Op::Addx => 0,
-        Op::Subx => 0,
     }
 }
 
@@ -184,18 +110,18 @@ fn imm_parts(op: Op, w: Width, v: u32, d: u8) -> Parts
     ensures { λ r. ⌜ r ≡ immParts op w v d ⌝ }
 {
     match w {
-        Width::Byte => one(digits(first_digit(op), d), v),
+        Width::Byte => one(digits(tables::first_digit(op), d), v),
         Width::Word => made(
             Prefix::Bare,
             0x79,
-            digits(next_digit(op), d),
+            digits(tables::next_digit(op), d),
             Tail::Tail16,
             v,
         ),
         Width::Long => made(
             Prefix::Bare,
             0x7A,
-            digits(next_digit(op), d),
+            digits(tables::next_digit(op), d),
             Tail::Tail32,
             v,
         ),
@@ -211,72 +137,19 @@ fn alu_parts(op: Op, w: Width, source: Source, d: u8) -> Parts
     }
 }
 
-fn way_digit(way: Way) -> u8
-    ensures { λ r. ⌜ r ≡ wayDigit way ⌝ }
-{
-    match way {
-        Way::Up => 0,
-        Way::Down => 1,
-    }
-}
-
-fn adds_digit(by: By) -> u8
-    ensures { λ r. ⌜ r ≡ addsDigit by ⌝ }
-{
-    match by {
-        By::One => 0x0,
-        By::Two => 0x8,
-        By::Four => 0x9,
-    }
-}
-
-fn word_digit(by: By) -> u8
-    ensures { λ r. ⌜ r ≡ wordDigit by ⌝ }
-{
-    match by {
-        By::One => 0x5,
-        By::Two => 0xD,
-        By::Four => 0,
-    }
-}
-
-fn long_digit(by: By) -> u8
-    ensures { λ r. ⌜ r ≡ longDigit by ⌝ }
-{
-    match by {
-        By::One => 0x7,
-        By::Two => 0xF,
-        By::Four => 0,
-    }
-}
-
 fn inc_dec_parts(way: Way, w: Width, by: By, r: u8) -> Parts
     ensures { λ p. ⌜ p ≡ incDecParts way w by r ⌝ }
 {
     match w {
-        Width::Byte => one(digits(way_digit(way), 0xA), digits(0, r)),
-        Width::Word => one(digits(way_digit(way), 0xB), digits(word_digit(by), r)),
-        Width::Long => one(digits(way_digit(way), 0xB), digits(long_digit(by), r)),
-    }
-}
-
-fn digit_013(w: Width) -> u8
-    ensures { λ r. ⌜ r ≡ digit013 w ⌝ }
-{
-    match w {
-        Width::Byte => 0x0,
-        Width::Word => 0x1,
-        Width::Long => 0x3,
-    }
-}
-
-fn digit_89b(w: Width) -> u8
-    ensures { λ r. ⌜ r ≡ digit89B w ⌝ }
-{
-    match w {
-        Width::Byte => 0x8,
-        Width::Word => 0x9,
-        Width::Long => 0xB,
+        Width::Byte => one(digits(tables::way_digit(way), 0xA), digits(0, r)),
+        Width::Word => one(
+            digits(tables::way_digit(way), 0xB),
+            digits(tables::word_digit(by), r),
+        ),
+        Width::Long => one(
+            digits(tables::way_digit(way), 0xB),
+            digits(tables::long_digit(by), r),
+        ),
     }
 }
 
@@ -284,34 +157,14 @@ fn shift_parts(turn: Turn, w: Width, r: u8) -> Parts
     ensures { λ p. ⌜ p ≡ shiftParts turn w r ⌝ }
 {
     match turn {
-        Turn::Shll => one(0x10, digits(digit_013(w), r)),
-        Turn::Shlr => one(0x11, digits(digit_013(w), r)),
-        Turn::Rotxl => one(0x12, digits(digit_013(w), r)),
-        Turn::Rotxr => one(0x13, digits(digit_013(w), r)),
-        Turn::Shal => one(0x10, digits(digit_89b(w), r)),
-        Turn::Shar => one(0x11, digits(digit_89b(w), r)),
-        Turn::Rotl => one(0x12, digits(digit_89b(w), r)),
-        Turn::Rotr => one(0x13, digits(digit_89b(w), r)),
-    }
-}
-
-fn extu_digit(w: Width) -> u8
-    ensures { λ r. ⌜ r ≡ extuDigit w ⌝ }
-{
-    match w {
-        Width::Byte => 0,
-        Width::Word => 0x5,
-        Width::Long => 0x7,
-    }
-}
-
-fn exts_digit(w: Width) -> u8
-    ensures { λ r. ⌜ r ≡ extsDigit w ⌝ }
-{
-    match w {
-        Width::Byte => 0,
-        Width::Word => 0xD,
-        Width::Long => 0xF,
+        Turn::Shll => one(0x10, digits(tables::digit_013(w), r)),
+        Turn::Shlr => one(0x11, digits(tables::digit_013(w), r)),
+        Turn::Rotxl => one(0x12, digits(tables::digit_013(w), r)),
+        Turn::Rotxr => one(0x13, digits(tables::digit_013(w), r)),
+        Turn::Shal => one(0x10, digits(tables::digit_89b(w), r)),
+        Turn::Shar => one(0x11, digits(tables::digit_89b(w), r)),
+        Turn::Rotl => one(0x12, digits(tables::digit_89b(w), r)),
+        Turn::Rotr => one(0x13, digits(tables::digit_89b(w), r)),
     }
 }
 
@@ -319,28 +172,10 @@ fn unary_parts(single: Single, w: Width, r: u8) -> Parts
     ensures { λ p. ⌜ p ≡ unaryParts single w r ⌝ }
 {
     match single {
-        Single::Not => one(0x17, digits(digit_013(w), r)),
-        Single::Neg => one(0x17, digits(digit_89b(w), r)),
-        Single::Extu => one(0x17, digits(extu_digit(w), r)),
-        Single::Exts => one(0x17, digits(exts_digit(w), r)),
-    }
-}
-
-fn dir_digit(dir: Dir) -> u8
-    ensures { λ r. ⌜ r ≡ dirDigit dir ⌝ }
-{
-    match dir {
-        Dir::Load => 0,
-        Dir::Store => 8,
-    }
-}
-
-fn abs8_digit(dir: Dir) -> u8
-    ensures { λ r. ⌜ r ≡ abs8Digit dir ⌝ }
-{
-    match dir {
-        Dir::Load => 2,
-        Dir::Store => 3,
+        Single::Not => one(0x17, digits(tables::digit_013(w), r)),
+        Single::Neg => one(0x17, digits(tables::digit_89b(w), r)),
+        Single::Extu => one(0x17, digits(tables::extu_digit(w), r)),
+        Single::Exts => one(0x17, digits(tables::exts_digit(w), r)),
     }
 }
 
@@ -348,10 +183,16 @@ fn abs8_digit(dir: Dir) -> u8
 fn place_parts(prefix: Prefix, more: u8, dir: Dir, p: Place, r: u8) -> Parts
     ensures { λ h. ⌜ h ≡ placeParts prefix more dir p r ⌝ }
 {
-    let k = dir_digit(dir);
+    let k = tables::dir_digit(dir);
     match p {
         Place::At(e) => made(prefix, 0x68 + wide(more), raised(k, e, r), Tail::NoTail, 0),
-        Place::Abs8(a) => made(prefix, digits(abs8_digit(dir), r), wide(a), Tail::NoTail, 0),
+        Place::Abs8(a) => made(
+            prefix,
+            digits(tables::abs8_digit(dir), r),
+            wide(a),
+            Tail::NoTail,
+            0,
+        ),
         Place::Step(e) => made(prefix, 0x6C + wide(more), raised(k, e, r), Tail::NoTail, 0),
         Place::Disp(e, d) => made(
             prefix,
@@ -423,14 +264,14 @@ pub fn parts_of(i: Instruction) -> Parts
         Instruction::Nop => one(0x00, 0x00),
         Instruction::Stc(r) => one(0x02, digits(0, r)),
         Instruction::LdcReg(r) => one(0x03, digits(0, r)),
-        Instruction::Ccr(change, v) => one(change_code(change), wide(v)),
+        Instruction::Ccr(change, v) => one(tables::change_code(change), wide(v)),
         Instruction::Alu(op, w, source, d) => alu_parts(op, w, source, d),
         Instruction::IncDec(way, w, by, r) => inc_dec_parts(way, w, by, r),
         Instruction::AddsSubs(way, by, e) => one(
-            digits(way_digit(way), 0xB),
-            digits(adds_digit(by), e),
+            digits(tables::way_digit(way), 0xB),
+            digits(tables::adds_digit(by), e),
         ),
-        Instruction::Decimal(way, r) => one(digits(way_digit(way), 0xF), digits(0, r)),
+        Instruction::Decimal(way, r) => one(digits(tables::way_digit(way), 0xF), digits(0, r)),
         Instruction::Shift(turn, w, r) => shift_parts(turn, w, r),
         Instruction::Unary(single, w, r) => unary_parts(single, w, r),
         Instruction::Move(dir, w, p, r) => move_parts(dir, w, p, r),

@@ -16,5 +16,10 @@ decode-at-spec =
     (λ c.
     let a = c .before .before .before .args in
     let s = now (a .bytes) in
-    let e = c .placed .ensures ∙ ap (placedOf (a .place)) (c .before .begins .ensures) in
-    (subst (λ r. Decodes (a .place) s r) (sym e) (exact (a .place) s (bytes-of s (λ k. omega (arith, c .before .before .shared-slice-known .given k)))), e)))
+    let e = c .placed .ensures ∙ ap (placedOf (a .place)) (c .before .begins .ensures) in (
+      subst (λ r. Decodes (a .place) s r) (sym e) (exact (a .place) s (bytes-of s (λ k. omega (
+        arith,
+        c .before .before .shared-slice-known .given k,
+      )))),
+      e,
+    )))

@@ -1,6 +1,6 @@
 use borrow.Author.Needs.{needs}
 use borrow.Author.Tests.{eq-eqb, ne-eqb}
-use Rattle.decoder.proofs.Lists.{rest2}
+use Rattle.codes.proofs.Laws.{rest-of}
 use Rattle.decoder.proofs.whole.begins.Statement.{statement}
 use Rattle.decoder.proofs.whole.begins.Tie as tie
 
@@ -11,10 +11,18 @@ begins-spec =
     (λ c. simp (ne-eqb _ _ (c .before .before .before .if1 .left), eq-eqb _ _ (c .before .before .if2 .taken)) (c .starts .ensures))
     (λ c. search needs) (λ c. search needs) (λ c. search needs) (λ c. search needs) (λ c. search needs) (λ c κs. search needs)
     (λ c.
-    simp (ne-eqb _ _ (c .before .before .before .before .before .before .if1 .left), ne-eqb _ _ (c .before .before .before .before .before .if2 .left), eq-eqb _ _ (c .before .before .before .if3 .taken))
-    (simp rest2 at (c .prefixed .ensures)))
+    simp (
+      ne-eqb _ _ (c .before .before .before .before .before .before .if1 .left),
+      ne-eqb _ _ (c .before .before .before .before .before .if2 .left),
+      eq-eqb _ _ (c .before .before .before .if3 .taken),
+    )
+    (simp rest-of at (c .prefixed .ensures)))
     (λ c. search needs) (λ c. search needs) (λ c κs. search needs) (λ c. search needs) (λ c. search needs) (λ c. search needs)
     (λ c κs. search needs)
     (λ c.
-    simp (ne-eqb _ _ (c .before .before .before .before .before .before .before .before .if1 .left), ne-eqb _ _ (c .before .before .before .before .before .before .before .if2 .left), ne-eqb _ _ (c .before .before .before .before .before .if3 .left))
-    (simp (rest2, c .before .before .first-word .ensures) at (c .finish .ensures))))
+    simp (
+      ne-eqb _ _ (c .before .before .before .before .before .before .before .before .if1 .left),
+      ne-eqb _ _ (c .before .before .before .before .before .before .before .if2 .left),
+      ne-eqb _ _ (c .before .before .before .before .before .if3 .left),
+    )
+    (simp (rest-of, c .before .before .first-word .ensures) at (c .finish .ensures))))

@@ -7,4 +7,9 @@ pub starts-spec : {M : Type 1} → statement M
 starts-spec =
     tie.close
     (tie.spec (λ c κs. search needs) (λ c κs. search needs) (λ c. rw (c .match .keys1)) (λ c. rw (c .match .keys2))
-    (λ c. simp (ne-eqb _ _ (c .before .before .match .rest .0 .1), ne-eqb _ _ (c .before .before .match .rest .1), c .begun .ensures, c .before .first-word .ensures)))
+    (λ c. simp (
+      ne-eqb _ _ (c .before .before .match .rest .0 .1),
+      ne-eqb _ _ (c .before .before .match .rest .1),
+      c .begun .ensures,
+      c .before .first-word .ensures,
+    )))

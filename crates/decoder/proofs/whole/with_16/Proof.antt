@@ -8,4 +8,9 @@ with-16-spec =
     tie.close
     (tie.spec (λ c. rw (lt-ltb _ _ (c .if1 .taken))) (λ c. search needs) (λ c κs. search needs) (λ c. search needs) (λ c. search needs)
     (λ c κs. search needs) (λ c. search needs) (λ c κs. search needs) (λ c. search needs)
-    (λ c. simp (le-ltb _ _ (c .before .before .before .before .before .if1 .left), c .filled .ensures, c .before .wide2 .ensures .0, c .before .before .before .wide .ensures .0)))
+    (λ c. simp (
+      le-ltb _ _ (c .before .before .before .before .before .if1 .left),
+      c .filled .ensures,
+      c .before .wide2 .ensures .0,
+      c .before .before .before .wide .ensures .0,
+    )))

@@ -9,4 +9,11 @@ with-32-spec =
     (tie.spec (λ c. rw (lt-ltb _ _ (c .if1 .taken))) (λ c. search needs) (λ c κs. search needs) (λ c. search needs) (λ c. search needs)
     (λ c κs. search needs) (λ c. search needs) (λ c. search needs) (λ c. search needs) (λ c κs. search needs) (λ c. search needs)
     (λ c. search needs) (λ c. search needs) (λ c κs. search needs) (λ c. search needs) (λ c κs. search needs) (λ c. search needs)
-    (λ c. simp (le-ltb _ _ (c .before .before .before .before .before .before .before .before .before .if1 .left), c .filled .ensures, c .before .wide4 .ensures .0, c .before .before .before .wide3 .ensures .0, c .before .before .before .before .before .wide2 .ensures .0, c .before .before .before .before .before .before .before .wide .ensures .0)))
+    (λ c. simp (
+      le-ltb _ _ (c .before .before .before .before .before .before .before .before .before .if1 .left),
+      c .filled .ensures,
+      c .before .wide4 .ensures .0,
+      c .before .before .before .wide3 .ensures .0,
+      c .before .before .before .before .before .wide2 .ensures .0,
+      c .before .before .before .before .before .before .before .wide .ensures .0,
+    )))

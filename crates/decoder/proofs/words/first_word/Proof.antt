@@ -11,4 +11,14 @@ first-word-spec =
     (λ c. simp (c .before .match .keys2, c .row-1 .ensures)) (λ c. rw (c .match .keys3)) (λ c. rw (c .match .keys4))
     (λ c. rw (c .match .keys5)) (λ c. simp (c .before .match .keys6, c .row-5 .ensures))
     (λ c. simp (c .before .match .keys7, c .row-6 .ensures)) (λ c. simp (c .before .match .keys8, c .row-7 .ensures))
-    (λ c. simp (ne-eqb _ _ (c .before .match .rest .0 .0 .0 .0 .0 .0 .0 .1), ne-eqb _ _ (c .before .match .rest .0 .0 .0 .0 .0 .0 .1), ne-eqb _ _ (c .before .match .rest .0 .0 .0 .0 .0 .1), ne-eqb _ _ (c .before .match .rest .0 .0 .0 .0 .1), ne-eqb _ _ (c .before .match .rest .0 .0 .0 .1), ne-eqb _ _ (c .before .match .rest .0 .0 .1), ne-eqb _ _ (c .before .match .rest .0 .1), ne-eqb _ _ (c .before .match .rest .1), c .first-op .ensures)))
+    (λ c. simp (
+      ne-eqb _ _ (c .before .match .rest .0 .0 .0 .0 .0 .0 .0 .1),
+      ne-eqb _ _ (c .before .match .rest .0 .0 .0 .0 .0 .0 .1),
+      ne-eqb _ _ (c .before .match .rest .0 .0 .0 .0 .0 .1),
+      ne-eqb _ _ (c .before .match .rest .0 .0 .0 .0 .1),
+      ne-eqb _ _ (c .before .match .rest .0 .0 .0 .1),
+      ne-eqb _ _ (c .before .match .rest .0 .0 .1),
+      ne-eqb _ _ (c .before .match .rest .0 .1),
+      ne-eqb _ _ (c .before .match .rest .1),
+      c .first-op .ensures,
+    )))

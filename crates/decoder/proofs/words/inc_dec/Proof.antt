@@ -11,4 +11,12 @@ inc-dec-spec =
     (λ c. simp (c .before .match .keys2, c .stepped2 .ensures)) (λ c. simp (c .before .match .keys3, c .stepped3 .ensures))
     (λ c. simp (c .before .match .keys4, c .counted .ensures)) (λ c. simp (c .before .match .keys5, c .counted2 .ensures))
     (λ c. simp (c .before .match .keys6, c .counted3 .ensures)) (λ c. simp (c .before .match .keys7, c .counted4 .ensures))
-    (λ c. simp (ne-eqb _ _ (c .match .rest .0 .0 .0 .0 .0 .0 .1), ne-eqb _ _ (c .match .rest .0 .0 .0 .0 .0 .1), ne-eqb _ _ (c .match .rest .0 .0 .0 .0 .1), ne-eqb _ _ (c .match .rest .0 .0 .0 .1), ne-eqb _ _ (c .match .rest .0 .0 .1), ne-eqb _ _ (c .match .rest .0 .1), ne-eqb _ _ (c .match .rest .1))))
+    (λ c. let r = c .match .rest in simp (
+      ne-eqb _ _ (r .0 .0 .0 .0 .0 .0 .1),
+      ne-eqb _ _ (r .0 .0 .0 .0 .0 .1),
+      ne-eqb _ _ (r .0 .0 .0 .0 .1),
+      ne-eqb _ _ (r .0 .0 .0 .1),
+      ne-eqb _ _ (r .0 .0 .1),
+      ne-eqb _ _ (r .0 .1),
+      ne-eqb _ _ (r .1),
+    )))

@@ -11,4 +11,11 @@ shift-spec =
     (λ c. simp (c .before .match .keys2, c .turned2 .ensures)) (λ c. simp (c .before .match .keys3, c .turned3 .ensures))
     (λ c. simp (c .before .match .keys4, c .turned4 .ensures)) (λ c. simp (c .before .match .keys5, c .turned5 .ensures))
     (λ c. simp (c .before .match .keys6, c .turned6 .ensures))
-    (λ c. simp (ne-eqb _ _ (c .match .rest .0 .0 .0 .0 .0 .1), ne-eqb _ _ (c .match .rest .0 .0 .0 .0 .1), ne-eqb _ _ (c .match .rest .0 .0 .0 .1), ne-eqb _ _ (c .match .rest .0 .0 .1), ne-eqb _ _ (c .match .rest .0 .1), ne-eqb _ _ (c .match .rest .1))))
+    (λ c. let r = c .match .rest in simp (
+      ne-eqb _ _ (r .0 .0 .0 .0 .0 .1),
+      ne-eqb _ _ (r .0 .0 .0 .0 .1),
+      ne-eqb _ _ (r .0 .0 .0 .1),
+      ne-eqb _ _ (r .0 .0 .1),
+      ne-eqb _ _ (r .0 .1),
+      ne-eqb _ _ (r .1),
+    )))

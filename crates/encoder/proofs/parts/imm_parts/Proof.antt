@@ -9,5 +9,15 @@ imm-parts-spec =
     (λ c κs. search needs) (λ c κs. search needs) (λ c κs. search needs) (λ c. search needs) (λ c κs. search needs) (λ c κs. search needs)
     (λ c κs. search needs)
     (λ c. simp (c .before .before .before .enum-told .given .1, c .one .ensures, c .before .digits .ensures, c .before .before .first-digit .ensures))
-    (λ c. simp (c .before .before .before .enum-told2 .given .1, c .made .ensures, c .before .digits2 .ensures, c .before .before .next-digit .ensures))
-    (λ c. simp (c .before .before .before .enum-told3 .given .1, c .made2 .ensures, c .before .digits3 .ensures, c .before .before .next-digit2 .ensures)))
+    (λ c. simp (
+      c .before .before .before .enum-told2 .given .1,
+      c .made .ensures,
+      c .before .digits2 .ensures,
+      c .before .before .next-digit .ensures,
+    ))
+    (λ c. simp (
+      c .before .before .before .enum-told3 .given .1,
+      c .made2 .ensures,
+      c .before .digits3 .ensures,
+      c .before .before .next-digit2 .ensures,
+    )))

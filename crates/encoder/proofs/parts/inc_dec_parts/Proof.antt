@@ -8,6 +8,26 @@ inc-dec-parts-spec =
     (tie.spec (λ c. search needs) (λ c κs. search needs) (λ c κs. search needs) (λ c κs. search needs) (λ c κs. search needs)
     (λ c. search needs) (λ c κs. search needs) (λ c κs. search needs) (λ c κs. search needs) (λ c κs. search needs) (λ c κs. search needs)
     (λ c. search needs) (λ c κs. search needs) (λ c κs. search needs) (λ c κs. search needs) (λ c κs. search needs) (λ c κs. search needs)
-    (λ c. simp (c .before .before .before .before .enum-told .given .1, c .one .ensures, c .before .digits2 .ensures, c .before .before .digits .ensures, c .before .before .before .way-digit .ensures))
-    (λ c. simp (c .before .before .before .before .before .enum-told2 .given .1, c .one2 .ensures, c .before .digits4 .ensures, c .before .before .word-digit .ensures, c .before .before .before .digits3 .ensures, c .before .before .before .before .way-digit2 .ensures))
-    (λ c. simp (c .before .before .before .before .before .enum-told3 .given .1, c .one3 .ensures, c .before .digits6 .ensures, c .before .before .long-digit .ensures, c .before .before .before .digits5 .ensures, c .before .before .before .before .way-digit3 .ensures)))
+    (λ c. simp (
+      c .before .before .before .before .enum-told .given .1,
+      c .one .ensures,
+      c .before .digits2 .ensures,
+      c .before .before .digits .ensures,
+      c .before .before .before .way-digit .ensures,
+    ))
+    (λ c. simp (
+      c .before .before .before .before .before .enum-told2 .given .1,
+      c .one2 .ensures,
+      c .before .digits4 .ensures,
+      c .before .before .word-digit .ensures,
+      c .before .before .before .digits3 .ensures,
+      c .before .before .before .before .way-digit2 .ensures,
+    ))
+    (λ c. simp (
+      c .before .before .before .before .before .enum-told3 .given .1,
+      c .one3 .ensures,
+      c .before .digits6 .ensures,
+      c .before .before .long-digit .ensures,
+      c .before .before .before .digits5 .ensures,
+      c .before .before .before .before .way-digit3 .ensures,
+    )))

@@ -15,11 +15,29 @@ parts-of-spec =
     (λ c. search needs) (λ c κs. search needs) (λ c. simp (c .before .enum-told .given .1, c .one .ensures))
     (λ c. simp (c .before .before .before .i .given .1, c .one2 .ensures, c .before .digits .ensures))
     (λ c. simp (c .before .before .before .i2 .given .1, c .one3 .ensures, c .before .digits2 .ensures))
-    (λ c. simp (c .before .before .before .before .i3 .given .1, c .one4 .ensures, c .before .wide .ensures .0, c .before .before .change-code .ensures))
+    (λ c. simp (
+      c .before .before .before .before .i3 .given .1,
+      c .one4 .ensures,
+      c .before .wide .ensures .0,
+      c .before .before .change-code .ensures,
+    ))
     (λ c. simp (c .before .before .i4 .given .1, c .alu-parts .ensures))
     (λ c. simp (c .before .before .i5 .given .1, c .inc-dec-parts .ensures))
-    (λ c. simp (c .before .before .before .before .before .before .i6 .given .1, c .one5 .ensures, c .before .digits4 .ensures, c .before .before .adds-digit .ensures, c .before .before .before .digits3 .ensures, c .before .before .before .before .way-digit .ensures))
-    (λ c. simp (c .before .before .before .before .before .i7 .given .1, c .one6 .ensures, c .before .digits6 .ensures, c .before .before .digits5 .ensures, c .before .before .before .way-digit2 .ensures))
+    (λ c. simp (
+      c .before .before .before .before .before .before .i6 .given .1,
+      c .one5 .ensures,
+      c .before .digits4 .ensures,
+      c .before .before .adds-digit .ensures,
+      c .before .before .before .digits3 .ensures,
+      c .before .before .before .before .way-digit .ensures,
+    ))
+    (λ c. simp (
+      c .before .before .before .before .before .i7 .given .1,
+      c .one6 .ensures,
+      c .before .digits6 .ensures,
+      c .before .before .digits5 .ensures,
+      c .before .before .before .way-digit2 .ensures,
+    ))
     (λ c. simp (c .before .before .i8 .given .1, c .shift-parts .ensures))
     (λ c. simp (c .before .before .i9 .given .1, c .unary-parts .ensures))
     (λ c. simp (c .before .before .i10 .given .1, c .move-parts .ensures))

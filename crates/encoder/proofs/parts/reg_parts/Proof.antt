@@ -8,5 +8,10 @@ reg-parts-spec =
     (tie.spec (λ c. search needs) (λ c κs. search needs) (λ c κs. search needs) (λ c κs. search needs) (λ c. search needs)
     (λ c κs. search needs) (λ c κs. search needs) (λ c κs. search needs) (λ c. search needs) (λ c κs. search needs)
     (λ c. simp (c .before .before .before .enum-told .given .1, c .one .ensures, c .before .digits .ensures, c .before .before .byte-code .ensures))
-    (λ c. simp (c .before .before .before .enum-told2 .given .1, c .one2 .ensures, c .before .digits2 .ensures, c .before .before .word-code .ensures))
+    (λ c. simp (
+      c .before .before .before .enum-told2 .given .1,
+      c .one2 .ensures,
+      c .before .digits2 .ensures,
+      c .before .before .word-code .ensures,
+    ))
     (λ c. simp (c .before .enum-told3 .given .1, c .long-parts .ensures)))

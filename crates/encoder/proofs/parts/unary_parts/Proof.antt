@@ -9,6 +9,21 @@ unary-parts-spec =
     (λ c κs. search needs) (λ c κs. search needs) (λ c κs. search needs) (λ c. search needs) (λ c κs. search needs) (λ c κs. search needs)
     (λ c κs. search needs) (λ c. search needs) (λ c κs. search needs) (λ c κs. search needs) (λ c κs. search needs)
     (λ c. simp (c .before .before .before .enum-told .given .1, c .one .ensures, c .before .digits .ensures, c .before .before .digit-013 .ensures))
-    (λ c. simp (c .before .before .before .enum-told2 .given .1, c .one2 .ensures, c .before .digits2 .ensures, c .before .before .digit-89b .ensures))
-    (λ c. simp (c .before .before .before .enum-told3 .given .1, c .one3 .ensures, c .before .digits3 .ensures, c .before .before .extu-digit .ensures))
-    (λ c. simp (c .before .before .before .enum-told4 .given .1, c .one4 .ensures, c .before .digits4 .ensures, c .before .before .exts-digit .ensures)))
+    (λ c. simp (
+      c .before .before .before .enum-told2 .given .1,
+      c .one2 .ensures,
+      c .before .digits2 .ensures,
+      c .before .before .digit-89b .ensures,
+    ))
+    (λ c. simp (
+      c .before .before .before .enum-told3 .given .1,
+      c .one3 .ensures,
+      c .before .digits3 .ensures,
+      c .before .before .extu-digit .ensures,
+    ))
+    (λ c. simp (
+      c .before .before .before .enum-told4 .given .1,
+      c .one4 .ensures,
+      c .before .digits4 .ensures,
+      c .before .before .exts-digit .ensures,
+    )))

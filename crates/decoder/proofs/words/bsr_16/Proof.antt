@@ -1,8 +1,0 @@
-use borrow.Author.Needs.{needs}
-use Rattle.decoder.proofs.words.bsr_16.Statement.{statement}
-use Rattle.decoder.proofs.words.bsr_16.Tie as tie
-
-pub bsr-16-spec : {M : Type 1} → statement M
-bsr-16-spec =
-    tie.close
-    (tie.spec (λ c κs. search needs) (λ c. rw (c .exactly .ensures)))
