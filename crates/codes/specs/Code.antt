@@ -1,4 +1,5 @@
--- THE CODE LIST, document 01 "Codes": the bytes of each instruction. A table for each line of the document, in its order, with its text above it.
+-- THE CODE LIST, document 01 "Codes": the bytes of each instruction. A table for each line of the document, in its order, with its text above it
+-- and the lines of document 002 that print the codes.
 -- Digits and bytes are numbers; `s · d` is the byte with the digits s and d. `none` and `[]` stand where there is no code: `Valid` leaves those out.
 use Prim.Native.Nat.{ℕ, _+_, _*_, _/_, _%_}
 use mathlib.Core.List.{List, [], _∷_}
@@ -30,6 +31,7 @@ abbrev pub be32 : ℕ → List ℕ
 be32 v = v / 16777216 ∷ v / 65536 % 256 ∷ v / 256 % 256 ∷ v % 256 ∷ []
 
 -- "NOP 0000; STC 020r; LDC 030r; ORC, XORC, ANDC, LDC immediate 04 to 07" (NOP, STC, LDC r and RTS stand in `codeOf`)
+-- 002:2729, 3341, 2290; 2842, 3539, 1337, 2289
 abbrev pub changeCode : Change → ℕ
 changeCode Orc = 0x04
 changeCode Xorc = 0x05
@@ -38,6 +40,8 @@ changeCode Ldc = 0x07
 
 -- "Register to register, rs then rd: ADD 08 byte, 09 word, 0A (8+e)e long; SUB 18, 19, 1A; CMP 1C, 1D, 1F (8+e)e; MOV 0C, 0D, 0F (8+e)e;
 -- ADDX 0E, SUBX 1E; OR, XOR, AND byte 14, 15, 16; word 64, 65, 66; long 01F0 then 64, 65, 66 with two e digits"
+-- 002: ADD 1202, 1219, 1236; SUB 3379, 3396, 3413; CMP 1745, 1762, 1779; MOV 2333, 2349, 2365; ADDX 1271; SUBX 3448; OR 2793, 2810, 2827;
+-- XOR 3487, 3504, 3521; AND 1288, 1305, 1322
 abbrev pub regCode : Op → Width → ℕ → ℕ → List ℕ
 regCode Add Byte s d = word 0x08 (s · d)
 regCode Add Word s d = word 0x09 (s · d)
@@ -69,6 +73,7 @@ regCode And Long s d = 0x01 ∷ 0xF0 ∷ word 0x66 (s · d)
 
 -- "INC.B 0A0r, DEC.B 1A0r; in 0B (up) and 1B (down): 0e, 8e, 9e are ADDS or SUBS by 1, 2, 4; 5r, Dr word by 1, 2; 7e, Fe long by 1, 2.
 -- DAA 0F0r, DAS 1F0r"
+-- 002: INC 2207, 2221-2222, 2236-2237; DEC 1855, 1869-1870, 1885-1886; ADDS 1252-1254; SUBS 3429-3431; DAA 1814; DAS 1839
 abbrev pub wayDigit : Way → ℕ
 wayDigit Up = 0
 wayDigit Down = 1
@@ -101,6 +106,8 @@ decimalCode way r = word (wayDigit way · 0xF) (0 · r)
 
 -- "Shifts 10 to 13, upper digit of the second byte 0, 1, 3 for byte, word, long: SHLL, SHLR, ROTXL, ROTXR; digit 8, 9, B: SHAL, SHAR, ROTL,
 -- ROTR. 17: 0, 1, 3 NOT; 8, 9, B NEG; 5r, 7e EXTU; Dr, Fe EXTS"
+-- 002: SHLL 3233-3263, SHLR 3279-3311, ROTXL 3016-3049, ROTXR 3065-3097, SHAL 3141-3169, SHAR 3185-3217, ROTL 2922-2953, ROTR 2967-3000;
+-- NOT 2745-2778, NEG 2681-2714, EXTU 2178-2192, EXTS 2146-2162
 abbrev pub digit013 : Width → ℕ
 digit013 Byte = 0x0
 digit013 Word = 0x1
@@ -139,6 +146,8 @@ unaryCode Exts w r = word 0x17 (extsDigit w · r)
 
 -- "Immediate byte, first digit 8 to F: ADD, ADDX, CMP, SUBX, OR, XOR, AND, MOV. 79 word and 7A long, next digit 0 to 6: MOV, ADD, CMP, SUB, OR,
 -- XOR, AND"
+-- 002: byte 1201, 1270, 1744, 3447, 2792, 3486, 1287, 2390; word 2425, 1218, 1761, 3395, 2809, 3503, 1304; long 2454, 1235, 1778, 3412, 2826,
+-- 3520, 1321
 abbrev pub firstDigit : Op → ℕ
 firstDigit Add = 0x8
 firstDigit Addx = 0x9
@@ -168,6 +177,7 @@ immCode op Long v d = 0x7A ∷ nextDigit op · d ∷ be32 v
 
 -- "MOV with memory; a load has 0 where a store has 8 added to the second byte's upper digit. Byte: @ER 68, aa:8 2r load and 3r store, @ER+ and
 -- @-ER 6C, d:16 6E, aa:16 6A0r, aa:24 6A2r 00. Word: 69, 6D, 6F, 6B0r, 6B2r 00. Long: 0100 before the word code"
+-- 002: loads 2390-2394, 4058-4060, 2426-2431, 2455-2460; stores 2484-2489, 4061, 2510-2515, 2538-2544; the 00 of aa:24 844
 abbrev pub dirDigit : Dir → ℕ
 dirDigit Load = 0
 dirDigit Store = 8
@@ -198,6 +208,7 @@ moveCode dir Word p r = moveWord dir p r
 moveCode dir Long p r = 0x01 ∷ 0x00 ∷ moveWord dir p r
 
 -- "Bcc: 4c d:8, 58c0 d:16. JMP 59e0, 5A aa:24, 5B @@aa:8. BSR 55, 5C00. JSR 5De0, 5E, 5F. RTS 5470"
+-- 002: Bcc 1397-1428; JMP 2253-2255; BSR 1646-1647; JSR 2270-2272; RTS 3124
 abbrev pub bccCode : ℕ → Reach → List ℕ
 bccCode c (Near d) = word (4 · c) d
 bccCode c (Far d) = 0x58 ∷ c · 0 ∷ be16 d
