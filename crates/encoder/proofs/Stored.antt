@@ -5,18 +5,19 @@ use mathlib.Core.Bool.{Bool, true, false}
 use mathlib.Core.List.{List, _∷_, _++_}
 use native.Mathlib.Omega.{arith}
 use native.Mathlib.Nat.{zero-add, mod-eq-of-lt}
+use lib.Dec.{ltb}
 use lib.ListN.{length, drop}
 use lib.Seq.{sets, sets-eq}
-use Rattle.encoder.specs.Names.{Instruction, Written, NotWritten, NotInstruction, LentTooShort, Prefix, Bare, P0100, P01F0, Tail, NoTail, Tail16}
-use Rattle.encoder.specs.Names.{Tail32, Parts}
+use borrow.Author.Tests.{ltb-true, ltb-false, le-ltb, lt-ltb}
+use Rattle.encoder.specs.Names.{Instruction, Encoded, Written, NotWritten, NotInstruction, LentTooShort, Prefix, Bare, P0100, P01F0, Tail}
+use Rattle.encoder.specs.Names.{NoTail, Tail16, Tail32, Parts}
 use Rattle.codes.specs.Code.{codeOf, lengthOf}
 use Rattle.codes.specs.Valid.{Valid}
 use Rattle.codes.specs.Exact.{Bytes, Encodes, written, not-instruction, too-short}
 use Rattle.codes.proofs.Laws.{code-bytes}
 use Rattle.encoder.specs.MirrorParts.{partsOf}
 use Rattle.encoder.specs.MirrorValid.{validOf}
-use Rattle.encoder.specs.MirrorWrite.{set2, startOf, tailSize, sizeOf, prefixSet, tailSet, writeOf}
-use lib.Seq.{sets, sets-eq}
+use Rattle.encoder.specs.MirrorWrite.{set2, startOf, tailSize, sizeOf, prefixSet, tailSet, writeOf, pick, answerOf, leftOf}
 use Rattle.encoder.proofs.Fields.{Says, says-valid}
 use Rattle.encoder.proofs.Rendered.{tailBytes, prefixed, render, code-is}
 
@@ -65,20 +66,33 @@ code-written : (i : Instruction) → Valid i → (l : List ℕ) → sizeOf (part
 code-written i v l h =
     wrote (partsOf i) l (subst Bytes (code-is i v) (code-bytes i v)) h ∙ ap₂ (λ c n. c ++ drop n l) (sym (code-is i v)) (sym (size-is (partsOf i)))
 
--- a test t that is the one of validity
-module _ (i : Instruction) (t : Bool) (e : t ≡ validOf i) where
-  holds : t ≡ true → Valid i
-  holds k = subst (λ s. Says s (Valid i)) (sym e ∙ k) (says-valid i)
+-- an answer, and what it leaves, as the room says
+pub no-room : (h : Parts) (l : List ℕ) (n : ℕ) → n ≡ sizeOf h → length l < n → (NotWritten (LentTooShort n) ≡ answerOf h l) × (l ≡ leftOf h l)
+no-room h l n e k =
+    let s : length l < sizeOf h = omega arith in
+    (rw (lt-ltb (length l) (sizeOf h) s) (ap (λ x. NotWritten (LentTooShort x)) e), rw (lt-ltb (length l) (sizeOf h) s))
 
+pub room : (h : Parts) (l m : List ℕ) (n : ℕ) → n ≡ sizeOf h → n ≤ length l → m ≡ writeOf h l → (Written n ≡ answerOf h l) × (m ≡ leftOf h l)
+room h l m n e k w =
+    let s : sizeOf h ≤ length l = omega arith in
+    (rw (le-ltb (length l) (sizeOf h) s) (ap Written e), rw (le-ltb (length l) (sizeOf h) s) w)
+
+-- for a test t that is the one of validity
+module _ (i : Instruction) (t : Bool) (e : t ≡ validOf i) where
   pub refuses : (l : List ℕ) → t ≡ false → Encodes i l l (NotWritten NotInstruction)
   refuses l k = not-instruction (subst (λ s. Says s (Valid i)) (sym e ∙ k) (says-valid i)) refl
 
-  pub lacks-room : (l : List ℕ) (h : Parts) (n : ℕ) → t ≡ true → h ≡ partsOf i → n ≡ sizeOf h → length l < n → Encodes i l l (NotWritten (LentTooShort n))
-  lacks-room l h n k p q r = let v = holds k in too-short v (q ∙ ap sizeOf p ∙ size-of-code i v) r refl
+  pub answers : (l m : List ℕ) (h : Parts) (r : Encoded) → t ≡ true → h ≡ partsOf i → (r ≡ answerOf h l) × (m ≡ leftOf h l) → Encodes i l m r
+  answers l m h r k p a =
+      subst (λ x. Encodes i l x r) (sym (a .1 ∙ ap (λ x. leftOf x l) p))
+      (subst (λ x. Encodes i l (leftOf (partsOf i) l) x) (sym (a .0 ∙ ap (λ x. answerOf x l) p)) (go (ltb (length l) (sizeOf (partsOf i))) refl))
+    where
+      v : Valid i
+      v = subst (λ s. Says s (Valid i)) (sym e ∙ k) (says-valid i)
 
-  pub writes : (l m : List ℕ) (h : Parts) (n : ℕ) → t ≡ true → h ≡ partsOf i → n ≡ sizeOf h → n ≤ length l → m ≡ writeOf h l → Encodes i l m (Written n)
-  writes l m h n k p q r s =
-      let v = holds k in
-      let z : n ≡ sizeOf (partsOf i) = q ∙ ap sizeOf p in
-      written v (z ∙ size-of-code i v) r
-      (s ∙ ap (λ x. writeOf x l) p ∙ code-written i v l (subst (λ x. x ≤ length l) z r) ∙ ap (λ x. codeOf i ++ drop x l) (sym z))
+      go : (b : Bool) → ltb (length l) (sizeOf (partsOf i)) ≡ b
+          → Encodes i l (pick b l (writeOf (partsOf i) l)) (pick b (NotWritten (LentTooShort (sizeOf (partsOf i)))) (Written (sizeOf (partsOf i))))
+      go true z = too-short v (size-of-code i v) (ltb-true (length l) (sizeOf (partsOf i)) z) refl
+      go false z =
+          let s : sizeOf (partsOf i) ≤ length l = ltb-false (length l) (sizeOf (partsOf i)) z in
+          written v (size-of-code i v) s (code-written i v l s)

@@ -1,8 +1,10 @@
 -- The stores, case by case as the code of `src/write.rt` does. Nothing here is to be believed.
 use Prim.Native.Nat.{ℕ, _+_, _/_, _%_}
+use mathlib.Core.Bool.{Bool, true, false}
 use mathlib.Core.List.{List}
-use lib.ListN.{set}
-use Rattle.encoder.specs.Names.{Prefix, Bare, P0100, P01F0, Tail, NoTail, Tail16, Tail32, Parts}
+use lib.Dec.{ltb}
+use lib.ListN.{length, set}
+use Rattle.encoder.specs.Names.{Encoded, Written, NotWritten, LentTooShort, Prefix, Bare, P0100, P01F0, Tail, NoTail, Tail16, Tail32, Parts}
 
 abbrev pub set2 : List ℕ → ℕ → ℕ → ℕ → List ℕ
 set2 l at x y = set (set l at (x % 256)) (at + 1) (y % 256)
@@ -36,3 +38,13 @@ tailSet l at Tail32 v = set4 l at v
 abbrev pub writeOf : Parts → List ℕ → List ℕ
 writeOf h l =
     tailSet (set2 (prefixSet l (h .prefix)) (startOf (h .prefix)) (h .a) (h .b)) (startOf (h .prefix) + 2) (h .tail) (h .v)
+
+abbrev pub pick : {A : Type 0} → Bool → A → A → A
+pick true a b = a
+pick false a b = b
+
+abbrev pub answerOf : Parts → List ℕ → Encoded
+answerOf h l = pick (ltb (length l) (sizeOf h)) (NotWritten (LentTooShort (sizeOf h))) (Written (sizeOf h))
+
+abbrev pub leftOf : Parts → List ℕ → List ℕ
+leftOf h l = pick (ltb (length l) (sizeOf h)) l (writeOf h l)

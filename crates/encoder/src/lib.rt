@@ -14,13 +14,8 @@ pub fn encode(i: Instruction, out: &mut [u8]) -> Encoded
     ensures { λ r. ⌜ Encodes i (now (out .entry)) (now (out .exit)) r ⌝ }
 {
     if valid::valid(i) {
-        let h = parts::parts_of(i);
-        let n = write::size_of(h);
-        if out.len() < n as usize {
-            return Encoded::NotWritten(Refusal::LentTooShort(n as u32));
-        }
-        write::write(h, out);
-        return Encoded::Written(n as usize);
+        write::put(parts::parts_of(i), out)
+    } else {
+        Encoded::NotWritten(Refusal::NotInstruction)
     }
-    Encoded::NotWritten(Refusal::NotInstruction)
 }

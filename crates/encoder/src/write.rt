@@ -2,10 +2,12 @@
 ghost use mathlib.Core.Path.{_≡_};
 ghost use Prim.Native.Nat.{_+_, _≤_};
 ghost use lib.ListN.{length};
-ghost use Rattle.encoder.specs.MirrorWrite.{set2, set4, startOf, tailSize, sizeOf, prefixSet, tailSet, writeOf};
+ghost use Rattle.encoder.specs.MirrorWrite.{set2, set4, startOf, tailSize, sizeOf, prefixSet, tailSet, writeOf, answerOf, leftOf};
 use crate::parts::Parts;
 use crate::parts::Prefix;
 use crate::parts::Tail;
+use codes::Encoded;
+use refusal::Refusal;
 
 fn put2(out: &mut [u8], at: usize, x: u32, y: u32)
     requires { ⌜ at + 2 ≤ length (now out) ⌝ }
@@ -44,7 +46,7 @@ fn tail_size(tail: Tail) -> u8
     }
 }
 
-pub fn size_of(h: Parts) -> u8
+fn size_of(h: Parts) -> u8
     ensures { λ r. ⌜ r ≡ sizeOf h ⌝ }
 {
     let prefix = h.prefix;
@@ -74,7 +76,7 @@ fn put_tail(out: &mut [u8], at: usize, tail: Tail, v: u32)
     }
 }
 
-pub fn write(h: Parts, out: &mut [u8])
+fn write(h: Parts, out: &mut [u8])
     requires { ⌜ sizeOf h ≤ length (now out) ⌝ }
     ensures { λ r. ⌜ now (out .exit) ≡ writeOf h (now (out .entry)) ⌝ }
 {
@@ -84,4 +86,16 @@ pub fn write(h: Parts, out: &mut [u8])
     put_prefix(out, prefix);
     put2(out, at, h.a, h.b);
     put_tail(out, at + 2, tail, h.v)
+}
+
+// The code, if it has room; else nothing changes, and the answer has the needed length.
+pub fn put(h: Parts, out: &mut [u8]) -> Encoded
+    ensures { λ r. ⌜ (r ≡ answerOf h (now (out .entry))) × (now (out .exit) ≡ leftOf h (now (out .entry))) ⌝ }
+{
+    let n = size_of(h);
+    if out.len() < n as usize {
+        return Encoded::NotWritten(Refusal::LentTooShort(n as u32));
+    }
+    write(h, out);
+    Encoded::Written(n as usize)
 }
