@@ -1,0 +1,7 @@
+pub mod Names
+pub mod Choices
+pub mod Rows
+pub mod Registers
+pub mod MirrorChoices
+pub mod MirrorRows
+pub mod MirrorLent
