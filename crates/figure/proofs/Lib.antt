@@ -1,3 +1,4 @@
 pub mod Answered
 pub mod Ways
+pub mod Kept
 pub mod Examples

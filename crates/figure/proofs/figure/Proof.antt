@@ -1,12 +1,8 @@
 use native.Mathlib.Omega.{arith}
 use Rattle.codes.proofs.Laws.{bytes-of}
-use mathlib.Core.Path.{_≡_, sym, _∙_}
-use mathlib.Core.List.{List}
-use lib.ListN.{length}
+use mathlib.Core.Path.{sym, _∙_}
 use denote.Ref.{now}
-use Rattle.figure.specs.declared.Asked.the-variants.{Fit}
-use Rattle.figure.specs.Answer.{askedOf}
-use Rattle.figure.proofs.Answered.{Good, fit-good, figured-unfit, figured-fit, promised}
+use Rattle.figure.proofs.Answered.{fit-good, figured-unfit, figured-fit, promised}
 use borrow.Author.Needs.{needs}
 use Rattle.figure.proofs.figure.Statement.{statement}
 use Rattle.figure.proofs.figure.Tie as tie
