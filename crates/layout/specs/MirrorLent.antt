@@ -13,5 +13,5 @@ rowIn l =
       form = getD l 3 0;
       other = getD l 4 0;
       value = getD l 5 0;
-      reg = getD l 6 0
+      reg = getD l 6 0;
     }

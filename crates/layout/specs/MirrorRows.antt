@@ -1,4 +1,4 @@
--- The instruction of a row, as `src/rows.rt` finds it. Nothing to believe: `proofs/Rows.antt` shows that it is the one whose row this is.
+-- The instruction of a row, as `src/rows.rt` finds it. Nothing to believe: `proofs/Named.antt` shows that it is the one whose row this is.
 use Prim.Native.Nat.{ℕ, _%_}
 use mathlib.Core.Bool.{Bool, cond, _&&_}
 use lib.Dec.{eqb}

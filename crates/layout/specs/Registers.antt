@@ -10,7 +10,7 @@ registersOf l =
     record {
       er = getD l 0 0 ∷ getD l 1 0 ∷ getD l 2 0 ∷ getD l 3 0 ∷ getD l 4 0 ∷ getD l 5 0 ∷ getD l 6 0 ∷ getD l 7 0 ∷ [];
       pc = getD l 8 0;
-      condition = conditionOf (getD l 9 0 % 256)
+      condition = conditionOf (getD l 9 0 % 256);
     }
 
 unfoldable pub tenOf : Registers → List ℕ

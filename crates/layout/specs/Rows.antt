@@ -1,8 +1,9 @@
 -- host/h8.h, "AN INSTRUCTION": the first seven numbers of each instruction, KIND WHICH WIDTH FORM OTHER VALUE REG. Numbers that a kind does not use are 0.
 use Prim.Native.Nat.{ℕ}
-use mathlib.Core.List.{List, [], _∷_}
+use mathlib.Core.List.{List, [], _∷_, _++_}
 use Rattle.layout.specs.Names.{Source, Reg, Imm, By, Place, At, Step, Disp, Abs8, Abs16, Abs24, Reach, Near, Far, Target, ByReg, Direct, Vector}
 use Rattle.layout.specs.Names.{Instruction, Nop, Stc, LdcReg, Ccr, Alu, IncDec, AddsSubs, Decimal, Shift, Unary, Move, Bcc, Jmp, Bsr, Jsr, Rts}
+use Rattle.codes.specs.Code.{lengthOf}
 use Rattle.codes.specs.States.{statesOf}
 use Rattle.layout.specs.declared.rows.Operand.{Operand}
 use Rattle.layout.specs.declared.rows.Row.{Row}
@@ -67,9 +68,12 @@ rowOf (Bsr reach) = row 13 0 0 (reachRow reach) 0
 rowOf (Jsr target) = row 14 0 0 (targetRow target) 0
 rowOf Rts = row 15 0 0 noOperand 0
 
--- the nine numbers: a row, the length n and the states s
-abbrev pub nine : Row → ℕ → ℕ → List ℕ
-nine f n s = f .kind ∷ f .which ∷ f .width ∷ f .form ∷ f .other ∷ f .value ∷ f .reg ∷ n ∷ s ∷ []
+abbrev pub seven : Row → List ℕ
+seven f = f .kind ∷ f .which ∷ f .width ∷ f .form ∷ f .other ∷ f .value ∷ f .reg ∷ []
 
-unfoldable pub numbersOf : Instruction → ℕ → List ℕ
-numbersOf i n = nine (rowOf i) n (statesOf i)
+abbrev pub nine : Row → ℕ → ℕ → List ℕ
+nine f n s = seven f ++ (n ∷ s ∷ [])
+
+-- all nine: the last two are the length and the states
+unfoldable pub numbersOf : Instruction → List ℕ
+numbersOf i = nine (rowOf i) (lengthOf i) (statesOf i)

@@ -5,6 +5,7 @@ ghost use mathlib.Core.Bool.{cond};
 ghost use Rattle.layout.specs.Rows.{noOperand, sourceRow, byRow, valueRow, placeRow, reachRow, targetRow, row, rowOf};
 ghost use Rattle.layout.specs.MirrorRows.{sourceAt, placeAt, reachAt, targetAt, readRow, sameOf, namedOf};
 ghost use Rattle.layout.specs.declared.rows.Named.the-variants.{Names, NamesNone};
+use crate::choices;
 use arith::Width;
 use codes::By;
 use codes::Instruction;
@@ -12,7 +13,6 @@ use codes::Place;
 use codes::Reach;
 use codes::Source;
 use codes::Target;
-use crate::choices;
 
 // FORM, OTHER and VALUE.
 pub struct Operand {
@@ -197,8 +197,20 @@ pub fn row_of(i: Instruction) -> Row
             by_row(by),
             d as u32,
         ),
-        Instruction::AddsSubs(way, by, d) => made(6, choices::way_number(way), 0, by_row(by), d as u32),
-        Instruction::Decimal(way, d) => made(7, choices::way_number(way), 0, no_operand(), d as u32),
+        Instruction::AddsSubs(way, by, d) => made(
+            6,
+            choices::way_number(way),
+            0,
+            by_row(by),
+            d as u32,
+        ),
+        Instruction::Decimal(way, d) => made(
+            7,
+            choices::way_number(way),
+            0,
+            no_operand(),
+            d as u32,
+        ),
         Instruction::Shift(turn, w, d) => made(
             8,
             choices::turn_number(turn),
@@ -337,11 +349,7 @@ fn same(f: Row, g: Row) -> bool
 fn if_same(t: bool, i: Instruction) -> Named
     ensures { λ r. ⌜ r ≡ cond t (Names i) NamesNone ⌝ }
 {
-    if t {
-        Named::Names(i)
-    } else {
-        Named::NamesNone
-    }
+    if t { Named::Names(i) } else { Named::NamesNone }
 }
 
 // The instruction whose row this is: read, and compared with its own row.
