@@ -1,0 +1,10 @@
+use Rattle.host.specs.Answers.{refuse}
+use borrow.Author.Needs.{needs}
+use Rattle.host.proofs.answers.refused.Statement.{statement}
+use Rattle.host.proofs.answers.refused.Tie as tie
+
+pub refused-spec : {M : Type 1} → statement M
+unfolding refuse
+refused-spec =
+    tie.close
+    (tie.spec (λ c κs. search needs) (λ c κs. search needs) (λ c κs. search needs) (λ c. search needs) (λ c. cc))

@@ -1,0 +1,20 @@
+use denote.Ref.{now}
+use borrow.Author.Tests.{lt-ltb, le-ltb}
+use mathlib.Core.Path.{refl, _∙_}
+use Rattle.host.specs.Steps.{stepCall}
+use Rattle.host.proofs.Told.{leave}
+use Rattle.host.proofs.Stepped.{stepped-is}
+use borrow.Author.Needs.{needs}
+use Rattle.host.proofs.stepping.h8_step.Statement.{statement}
+use Rattle.host.proofs.stepping.h8_step.Tie as tie
+
+pub h8-step-spec : {M : Type 1} → statement M
+unfolding stepCall
+h8-step-spec =
+    tie.close
+    (tie.spec (λ c. rw (lt-ltb _ _ (c .if1 .taken))) (λ c κs. search needs) (λ c. search needs)
+    (λ c. rw (le-ltb _ _ (c .before .before .before .before .before .if1 .left), lt-ltb _ _ (c .before .before .before .before .if2 .taken)) (leave (c .before .before .refused .ensures) refl refl))
+    (λ c κs. search needs) (λ c κs. search needs) (λ c. search needs) (λ c. search needs)
+    (λ c. rw (le-ltb _ _ (c .before .before .before .before .before .before .before .before .if1 .left), le-ltb _ _ (c .before .before .before .before .before .before .before .if2 .left), ← c .before .before .before .before .before .number-at .ensures, lt-ltb _ _ (c .before .before .before .before .if3 .taken)) (leave (c .before .before .refused2 .ensures) refl refl))
+    (λ c κs. search needs) (λ c. search needs) (λ c. search needs) (λ c. search needs)
+    (λ c. let s = c .before .before .before .before .before .before .before .before .before .before .before .before .before .before .before .before .before .before .before .args in rw (le-ltb _ _ (c .before .before .before .before .before .before .before .before .before .before .before .before .before .before .if1 .left), le-ltb _ _ (c .before .before .before .before .before .before .before .before .before .before .before .before .before .if2 .left), ← c .before .before .before .before .before .before .before .before .before .before .before .number-at .ensures, le-ltb _ _ (c .before .before .before .before .before .before .before .before .before .before .if3 .left)) (c .before .before .before .before .before .before .step-lent .ensures ∙ stepped-is (s .base) (now (s .rom)) (now (s .ram)) (now (s .regs)) (now (s .answer)))))

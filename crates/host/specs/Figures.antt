@@ -1,0 +1,50 @@
+-- host/h8.h, h8_figure and h8_way: what they return and leave in the lent arrays.
+use Prim.Native.Nat.{ℕ, _≤_, _<_}
+use mathlib.Core.Bool.{cond}
+use mathlib.Core.List.{List, [], _∷_}
+use lib.Dec.{ltb}
+use lib.ListN.{length}
+use Rattle.figure.specs.Answer.{Figured}
+use Rattle.figure.specs.MirrorFigure.{wayOf}
+use Rattle.figure.specs.declared.Verdict.{Verdict}
+use Rattle.figure.specs.declared.Verdict.the-variants.{Longest, Forbids}
+use Rattle.paths.specs.declared.WayOn.{WayOn}
+use Rattle.paths.specs.declared.WayOn.the-variants.{On, Home, NoWay}
+use Rattle.host.specs.Answers.{Noted, noted, tell, refuse}
+
+-- ---- h8_figure
+
+-- what is returned, and the table and the answer afterwards
+pub record Figuring : Type 0 where
+  pub returned : ℕ
+  pub table : List ℕ
+  pub answer : List ℕ
+
+abbrev pub figuring : ℕ → List ℕ → List ℕ → Figuring
+figuring n t a = record { returned = n; table = t; answer = a }
+
+abbrev pub withTable : List ℕ → Noted → Figuring
+withTable table n = figuring (n .returned) table (n .answer)
+
+-- [0, 0, figure], or a refusal
+unfoldable pub figureTold : Verdict → List ℕ → Noted
+figureTold (Longest n) answer = tell (0 ∷ 0 ∷ n ∷ []) answer
+figureTold (Forbids f) answer = refuse f answer
+
+-- 13 for the answer; then what the figure of the routine promises (`Figured`)
+pub data FigureCall (rom : List ℕ) (entry : ℕ) (table answer : List ℕ) : Figuring → Type 0 where
+  answer-short : length answer < 3 → FigureCall rom entry table answer (figuring 13 table answer)
+  figured : {v : Verdict} {after : List ℕ} → 3 ≤ length answer → Figured rom entry table v after
+      → FigureCall rom entry table answer (withTable after (figureTold v answer))
+
+-- ---- h8_way
+
+-- [0, 0, next place], 16,777,215 for a return; or a refusal
+unfoldable pub wayTold : WayOn → List ℕ → Noted
+wayTold (On p) answer = tell (0 ∷ 0 ∷ p ∷ []) answer
+wayTold Home answer = tell (0 ∷ 0 ∷ 16777215 ∷ []) answer
+wayTold (NoWay f) answer = refuse f answer
+
+-- 13 for the answer; then the way. What that is, `WayTold` says.
+unfoldable pub wayCall : List ℕ → List ℕ → ℕ → List ℕ → Noted
+wayCall rom table place answer = cond (ltb (length answer) 3) (noted 13 answer) (wayTold (wayOf rom table place) answer)

@@ -1,0 +1,6 @@
+pub mod Answers
+pub mod Codes
+pub mod Steps
+pub mod Figures
+pub mod MirrorCodes
+pub mod MirrorSteps

@@ -1,0 +1,40 @@
+use Rattle.layout.specs.Rows.{rowOf}
+use borrow.Author.Needs.{needs}
+use Rattle.layout.proofs.rows.row_of.Statement.{statement}
+use Rattle.layout.proofs.rows.row_of.Tie as tie
+
+pub row-of-spec : {M : Type 1} → statement M
+unfolding rowOf
+row-of-spec =
+    tie.close
+    (tie.spec (λ c. search needs) (λ c κs. search needs) (λ c κs. search needs) (λ c. search needs)
+    (λ c κs. search needs) (λ c. search needs) (λ c κs. search needs) (λ c. search needs) (λ c κs. search needs)
+    (λ c. search needs) (λ c κs. search needs) (λ c. search needs) (λ c κs. search needs) (λ c κs. search needs)
+    (λ c κs. search needs) (λ c. search needs) (λ c κs. search needs) (λ c κs. search needs) (λ c κs. search needs)
+    (λ c. search needs) (λ c κs. search needs) (λ c. search needs) (λ c κs. search needs) (λ c κs. search needs)
+    (λ c κs. search needs) (λ c. search needs) (λ c κs. search needs) (λ c. search needs) (λ c κs. search needs)
+    (λ c κs. search needs) (λ c. search needs) (λ c κs. search needs) (λ c. search needs) (λ c κs. search needs)
+    (λ c κs. search needs) (λ c. search needs) (λ c κs. search needs) (λ c. search needs) (λ c κs. search needs)
+    (λ c κs. search needs) (λ c κs. search needs) (λ c. search needs) (λ c κs. search needs) (λ c. search needs)
+    (λ c κs. search needs) (λ c κs. search needs) (λ c κs. search needs) (λ c. search needs) (λ c κs. search needs)
+    (λ c. search needs) (λ c κs. search needs) (λ c κs. search needs) (λ c κs. search needs) (λ c. search needs)
+    (λ c κs. search needs) (λ c. search needs) (λ c. search needs) (λ c κs. search needs) (λ c κs. search needs)
+    (λ c. search needs) (λ c κs. search needs) (λ c κs. search needs) (λ c. search needs) (λ c κs. search needs)
+    (λ c κs. search needs) (λ c. search needs) (λ c κs. search needs) (λ c κs. search needs) (λ c. search needs)
+    (λ c κs. search needs) (λ c κs. search needs)
+    (λ c. simp (c .before .before .enum-told .given .1, c .made .ensures, c .before .no-operand .ensures))
+    (λ c. simp (c .before .before .before .i .given .1, c .made2 .ensures, c .before .no-operand2 .ensures))
+    (λ c. simp (c .before .before .before .i2 .given .1, c .made3 .ensures, c .before .no-operand3 .ensures))
+    (λ c. simp (c .before .before .before .before .i3 .given .1, c .made4 .ensures, c .before .value-row .ensures, c .before .before .change-number .ensures))
+    (λ c. simp (c .before .before .before .before .before .i4 .given .1, c .made5 .ensures, c .before .source-row .ensures, c .before .before .width-number .ensures, c .before .before .before .op-number .ensures))
+    (λ c. simp (c .before .before .before .before .before .i5 .given .1, c .made6 .ensures, c .before .by-row .ensures, c .before .before .width-number2 .ensures, c .before .before .before .way-number .ensures))
+    (λ c. simp (c .before .before .before .before .i6 .given .1, c .made7 .ensures, c .before .by-row2 .ensures, c .before .before .way-number2 .ensures))
+    (λ c. simp (c .before .before .before .before .i7 .given .1, c .made8 .ensures, c .before .no-operand4 .ensures, c .before .before .way-number3 .ensures))
+    (λ c. simp (c .before .before .before .before .before .i8 .given .1, c .made9 .ensures, c .before .no-operand5 .ensures, c .before .before .width-number3 .ensures, c .before .before .before .turn-number .ensures))
+    (λ c. simp (c .before .before .before .before .before .i9 .given .1, c .made10 .ensures, c .before .no-operand6 .ensures, c .before .before .width-number4 .ensures, c .before .before .before .single-number .ensures))
+    (λ c. simp (c .before .before .before .before .before .i10 .given .1, c .made11 .ensures, c .before .place-row .ensures, c .before .before .width-number5 .ensures, c .before .before .before .dir-number .ensures))
+    (λ c. simp (c .before .before .before .i11 .given .1, c .made12 .ensures, c .before .reach-row .ensures))
+    (λ c. simp (c .before .before .before .i12 .given .1, c .made13 .ensures, c .before .target-row .ensures))
+    (λ c. simp (c .before .before .before .i13 .given .1, c .made14 .ensures, c .before .reach-row2 .ensures))
+    (λ c. simp (c .before .before .before .i14 .given .1, c .made15 .ensures, c .before .target-row2 .ensures))
+    (λ c. simp (c .before .before .enum-told2 .given .1, c .made16 .ensures, c .before .no-operand7 .ensures)))

@@ -1,0 +1,138 @@
+// Numbers out of lent arrays and into them. What an array lacks reads as 0 and is not written: whoever promises more looks at the length first.
+ghost use mathlib.Core.Path.{_≡_};
+ghost use mathlib.Core.List.{[], _∷_};
+ghost use lib.ListN.{getD, set};
+ghost use lib.Seq.{sets};
+ghost use Rattle.layout.specs.Rows.{nine};
+ghost use Rattle.layout.specs.Registers.{registersOf, tenOf};
+ghost use Rattle.layout.specs.MirrorLent.{rowIn};
+use crate::rows;
+use crate::rows::Row;
+use registers::Condition;
+use registers::Registers;
+
+pub fn number_at(l: &[u32], i: usize) -> u32
+    ensures { λ r. ⌜ r ≡ getD (now (l .entry)) i 0 ⌝ }
+{
+    if i < l.len() { l[i] } else { 0 }
+}
+
+pub fn put(l: &mut [u32], i: usize, x: u32)
+    ensures { λ _. ⌜ now (l .exit) ≡ set (now (l .entry)) i x ⌝ }
+{
+    if i < l.len() {
+        l[i] = x;
+    }
+}
+
+pub fn put_wide(l: &mut [u64], i: usize, x: u64)
+    ensures { λ _. ⌜ now (l .exit) ≡ set (now (l .entry)) i x ⌝ }
+{
+    if i < l.len() {
+        l[i] = x;
+    }
+}
+
+// An answer of three numbers.
+pub fn put_three(l: &mut [u32], a: u32, b: u32, c: u32)
+    ensures { λ _. ⌜ now (l .exit) ≡ sets (now (l .entry)) 0 (a ∷ b ∷ c ∷ []) ⌝ }
+{
+    put(l, 0, a);
+    put(l, 1, b);
+    put(l, 2, c)
+}
+
+pub fn put_three_wide(l: &mut [u64], a: u64, b: u64, c: u64)
+    ensures { λ _. ⌜ now (l .exit) ≡ sets (now (l .entry)) 0 (a ∷ b ∷ c ∷ []) ⌝ }
+{
+    put_wide(l, 0, a);
+    put_wide(l, 1, b);
+    put_wide(l, 2, c)
+}
+
+pub fn put_five_wide(l: &mut [u64], a: u64, b: u64, c: u64, d: u64, e: u64)
+    ensures { λ _. ⌜ now (l .exit) ≡ sets (now (l .entry)) 0 (a ∷ b ∷ c ∷ d ∷ e ∷ []) ⌝ }
+{
+    put_three_wide(l, a, b, c);
+    put_wide(l, 3, d);
+    put_wide(l, 4, e)
+}
+
+pub fn row_in(l: &[u32]) -> Row
+    ensures { λ r. ⌜ r ≡ rowIn (now (l .entry)) ⌝ }
+{
+    Row {
+        kind: number_at(l, 0),
+        which: number_at(l, 1),
+        width: number_at(l, 2),
+        form: number_at(l, 3),
+        other: number_at(l, 4),
+        value: number_at(l, 5),
+        reg: number_at(l, 6),
+    }
+}
+
+// A row, the length n and the states s.
+pub fn put_row(l: &mut [u32], f: Row, n: u32, s: u32)
+    ensures { λ _. ⌜ now (l .exit) ≡ sets (now (l .entry)) 0 (nine f n s) ⌝ }
+{
+    put(l, 0, f.kind);
+    put(l, 1, f.which);
+    put(l, 2, f.width);
+    put(l, 3, f.form);
+    put(l, 4, f.other);
+    put(l, 5, f.value);
+    put(l, 6, f.reg);
+    put(l, 7, n);
+    put(l, 8, s)
+}
+
+pub fn registers_in(l: &[u32]) -> Registers
+    ensures { λ r. ⌜ r ≡ registersOf (now (l .entry)) ⌝ }
+{
+    let er = [
+        number_at(l, 0),
+        number_at(l, 1),
+        number_at(l, 2),
+        number_at(l, 3),
+        number_at(l, 4),
+        number_at(l, 5),
+        number_at(l, 6),
+        number_at(l, 7),
+    ];
+    let pc = number_at(l, 8);
+    let condition = Condition::from_byte(rows::low8(number_at(l, 9)));
+    Registers {
+        er: er,
+        pc: pc,
+        condition: condition,
+    }
+}
+
+fn put_low(l: &mut [u32], r: Registers)
+    ensures { λ _. ⌜ now (l .exit) ≡ sets (now (l .entry)) 0 (getD (r .er) 0 0 ∷ getD (r .er) 1 0 ∷ getD (r .er) 2 0 ∷ getD (r .er) 3 0 ∷ []) ⌝ }
+{
+    put(l, 0, r.er[0]);
+    put(l, 1, r.er[1]);
+    put(l, 2, r.er[2]);
+    put(l, 3, r.er[3])
+}
+
+fn put_high(l: &mut [u32], r: Registers)
+    ensures { λ _. ⌜ now (l .exit) ≡ sets (now (l .entry)) 4 (getD (r .er) 4 0 ∷ getD (r .er) 5 0 ∷ getD (r .er) 6 0 ∷ getD (r .er) 7 0 ∷ []) ⌝ }
+{
+    put(l, 4, r.er[4]);
+    put(l, 5, r.er[5]);
+    put(l, 6, r.er[6]);
+    put(l, 7, r.er[7])
+}
+
+pub fn put_registers(l: &mut [u32], r: Registers)
+    ensures { λ _. ⌜ now (l .exit) ≡ sets (now (l .entry)) 0 (tenOf r) ⌝ }
+{
+    let f = r.condition;
+    put_low(l, r);
+    put_high(l, r);
+    put(l, 8, r.pc);
+    put(l, 9, f.byte() as u32)
+}
