@@ -122,6 +122,3 @@ told-exactly (forbids {f = f} {r = r} w b) = ((λ x. (f, w .met)), (λ x. (r, re
 
 pub exactly : {rom : List ℕ} {entry : ℕ} {t : List ℕ} {r : Verdict} {a : List ℕ} → Figured rom entry t r a → RefusedExactly rom entry t r
 exactly p e = told-exactly (rw e at (p .in-order) .0)
-
-pub promised : {rom : List ℕ} {entry : ℕ} {t : List ℕ} {r : Verdict} {a : List ℕ} → Figured rom entry t r a → Figured rom entry t r a × RefusedExactly rom entry t r
-promised p = (p, exactly p)

@@ -9,12 +9,11 @@ use lib.Dec.{lit<, lit≤}
 use Rattle.refusal.specs.declared.Refusal.the-variants.{FetchOutside, BadEntry, NotUpward}
 use Rattle.codes.specs.Exact.{Bytes}
 use Rattle.flow.specs.Targets.{targetOf}
-use Rattle.paths.specs.Paths.{IsPlace, RowsFrom}
+use Rattle.paths.specs.Paths.{RowsFrom}
 use Rattle.paths.specs.MirrorRows.{rowOf, joined, upwardOf, reckonedOf, whyOf}
 use Rattle.paths.proofs.Rows.{rows-down}
 use Rattle.listing.specs.Listing.{branchFlow, goesFlow, foundFlow, decodedAt, flowAt}
 use Rattle.listing.proofs.Listed.{listing}
-use Rattle.figure.specs.declared.Asked.the-variants.{Fit}
 use Rattle.figure.specs.declared.Verdict.the-variants.{Longest, Forbids}
 use Rattle.figure.specs.Answer.{askedOf, Filled, Figured}
 use Rattle.figure.specs.MirrorFigure.{whyAt, verdictOf}

@@ -1,6 +1,6 @@
 -- What `way` answers, by a table that `figure` filled.
 -- Assumes nothing.
-use mathlib.Core.Path.{_≡_, refl, sym, subst, ap, _∙_}
+use mathlib.Core.Path.{_≡_, _∙_}
 use mathlib.Core.List.{List}
 use Prim.Native.Nat.{ℕ, _%_, _≤_, _<_}
 use native.Mathlib.Omega.{arith}
@@ -8,9 +8,8 @@ use lib.ListN.{length}
 use borrow.Author.Tests.{eq-eqb, ne-eqb, lt-ltb, le-leb}
 use Rattle.refusal.specs.declared.Refusal.{Refusal}
 use Rattle.codes.specs.Exact.{Bytes}
-use Rattle.paths.specs.declared.WayOn.{WayOn}
 use Rattle.paths.specs.declared.WayOn.the-variants.{NoWay}
-use Rattle.paths.specs.Paths.{IsPlace, Forbidden, Largest, Clear, Lowest, Row, figure, refused, RowsFrom, Follows}
+use Rattle.paths.specs.Paths.{IsPlace, Forbidden, Clear, Lowest, figure, refused, RowsFrom}
 use Rattle.paths.specs.MirrorRows.{rowOf, onwardOf}
 use Rattle.paths.proofs.Laws.{Listing, row-one, row-clear, meets-in, clear-in}
 use Rattle.paths.proofs.Rows.{row-at, follows}
@@ -18,7 +17,7 @@ use Rattle.listing.specs.Listing.{flowAt}
 use Rattle.listing.proofs.Listed.{listing}
 use Rattle.figure.specs.declared.Asked.the-variants.{Fit, Unfit}
 use Rattle.figure.specs.Answer.{askedOf}
-use Rattle.figure.specs.MirrorFigure.{whyAt, onFrom, wayAsked, wayOf}
+use Rattle.figure.specs.MirrorFigure.{onFrom, wayAsked, wayOf}
 use Rattle.figure.specs.Longest.{WayTold}
 use Rattle.figure.proofs.Answered.{Good, fit-good, good-place, why-lowest}
 
@@ -56,6 +55,6 @@ module _ (rom : List ℕ) (bytes : Bytes rom) (table : List ℕ) where
   pub way-told : (place : ℕ) → WayTold rom table place
   way-told place = record {
     unfit = λ f e. unfit-way place f e;
-    longest = λ e R n c l. let g = fit-good (length rom) (length table) place e in follows (flowAt rom) (length rom) (L (g .even) (g .small) (g .room) R) table R (wayOf rom table) (clear-way (g .even) (g .small) (g .room) R) place n (good-place g) c l;
-    refused = λ e R f r w b. let g = fit-good (length rom) (length table) place e in refused-way (g .even) (g .small) (g .room) R place f r e (good-place g) w b;
+    longest = λ b n c l. let e = b .0 in let R = b .1 in let g = fit-good (length rom) (length table) place e in follows (flowAt rom) (length rom) (L (g .even) (g .small) (g .room) R) table R (wayOf rom table) (clear-way (g .even) (g .small) (g .room) R) place n (good-place g) c l;
+    refused = λ b f r w k. let e = b .0 in let R = b .1 in let g = fit-good (length rom) (length table) place e in refused-way (g .even) (g .small) (g .room) R place f r e (good-place g) w k;
   }

@@ -1,3 +1,4 @@
 pub mod Answer
 pub mod MirrorFigure
 pub mod Longest
+pub mod Bound

@@ -11,8 +11,14 @@ use Rattle.figure.specs.declared.Asked.the-variants.{Fit, Unfit}
 use Rattle.figure.specs.Answer.{askedOf}
 use Rattle.figure.specs.MirrorFigure.{wayOf}
 
--- bad input is refused as `figure` refuses it. By a table that `figure` filled: followed from a place that is not refused, what is answered at each place is a path to a return that has the figure's states in all; a place that is refused is refused as `figure` refuses it
+-- the input is fit, and the table has the rows that `figure` leaves
+abbrev pub ByTable : List ℕ → List ℕ → ℕ → Type 0
+ByTable rom table place = (askedOf (length rom) (length table) place ≡ Fit) × RowsFrom (flowAt rom) (length rom) table 0
+
 pub record WayTold (rom table : List ℕ) (place : ℕ) : Type 0 where
+  -- bad input is refused as `figure` refuses it
   pub unfit : (f : Refusal) → askedOf (length rom) (length table) place ≡ Unfit f → wayOf rom table place ≡ NoWay f
-  pub longest : askedOf (length rom) (length table) place ≡ Fit → RowsFrom (flowAt rom) (length rom) table 0 → (n : ℕ) → Clear (flowAt rom) place → Largest (flowAt rom) place n → Follows (flowAt rom) (wayOf rom table) place n
-  pub refused : askedOf (length rom) (length table) place ≡ Fit → RowsFrom (flowAt rom) (length rom) table 0 → (f : ℕ) (r : Refusal) → Lowest (flowAt rom) place f → Forbidden (flowAt rom) f r → wayOf rom table place ≡ NoWay r
+  -- followed from a place with a figure, what is answered is a path to a return with so many states in all
+  pub longest : ByTable rom table place → (n : ℕ) → Clear (flowAt rom) place → Largest (flowAt rom) place n → Follows (flowAt rom) (wayOf rom table) place n
+  -- a place without one is refused as `figure` refuses it
+  pub refused : ByTable rom table place → (f : ℕ) (r : Refusal) → Lowest (flowAt rom) place f → Forbidden (flowAt rom) f r → wayOf rom table place ≡ NoWay r

@@ -8,6 +8,7 @@ ghost use lib.ListN.{length};
 ghost use Rattle.paths.specs.MirrorRows.{reckonedOf};
 ghost use Rattle.listing.specs.Listing.{flowAt};
 ghost use Rattle.figure.specs.Answer.{askedOf, Filled, Figured, RefusedExactly};
+ghost use Rattle.figure.specs.Bound.{RunsKept};
 ghost use Rattle.figure.specs.MirrorFigure.{whyAt, verdictOf, onFrom, wayOf};
 ghost use Rattle.figure.specs.Longest.{WayTold};
 
@@ -94,6 +95,7 @@ fn told(rom: &[u8], r: Reckoned) -> Verdict
 pub fn figure(rom: &[u8], entry: u32, table: &mut [u64]) -> Verdict
     ensures answer { λ r. ⌜ Figured (now (rom .entry)) entry (now (table .entry)) r (now (table .exit)) ⌝ }
     ensures exact { λ r. ⌜ RefusedExactly (now (rom .entry)) entry (now (table .entry)) r ⌝ }
+    ensures runs { λ r. ⌜ RunsKept (now (rom .entry)) entry r ⌝ }
 {
     let a = look(rom.len(), table.len(), entry);
     match a {

@@ -1,4 +1,5 @@
--- Document 01, "Numbers, flags and addresses": "Displacements are signed. A branch counts from the next instruction. Addresses are taken modulo 2^24. PC's lowest bit is cleared whenever PC is set."
+-- Document 01, "Numbers, flags and addresses": "Displacements are signed. A branch counts from the next instruction. Addresses are taken modulo
+-- 2^24 .. PC's lowest bit is cleared whenever PC is set (house rule)." Displacements 002:1370, odd targets 002:963
 use mathlib.Core.Bool.{cond}
 use Prim.Native.Nat.{ℕ, _+_, _-_, _*_, _/_, _%_}
 use lib.IntN.{ℤ, pos, negsuc, _+ℤ_, _-ℤ_}

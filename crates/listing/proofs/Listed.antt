@@ -1,10 +1,10 @@
 -- A read-only memory of good length is a listing, over which the laws of paths hold.
 -- Assumes nothing.
-use mathlib.Core.Path.{_≡_, refl, sym, subst}
+use mathlib.Core.Path.{_≡_}
 use mathlib.Core.Logic.{⊎-elim}
 use mathlib.Core.List.{List}
 use mathlib.Core.Bool.{Bool, true, false, cond}
-use Prim.Native.Nat.{ℕ, _%_, _≤_, _<_}
+use Prim.Native.Nat.{ℕ, _%_, _≤_}
 use native.Mathlib.Omega.{arith}
 use lib.Dec.{eqb}
 use lib.ListN.{length, drop}
@@ -19,10 +19,10 @@ use Rattle.codes.specs.States.{statesOf, goesOf}
 use Rattle.codes.specs.Exact.{Bytes, Decodes, accepted, cut-short, unknown}
 use Rattle.codes.proofs.Laws.{states-range, code-sized, bytes-drop}
 use Rattle.decoder.proofs.Laws.{exact}
-use Rattle.flow.specs.Targets.{pcOf, nextOf, targetOf}
+use Rattle.flow.specs.Targets.{nextOf, targetOf}
 use Rattle.flow.proofs.Signed.{target-even, target-in}
 use Rattle.paths.specs.declared.Flow.{Flow}
-use Rattle.paths.specs.declared.Flow.the-variants.{Next, Jump, Either, Ends, Stop}
+use Rattle.paths.specs.declared.Flow.the-variants.{Next, Jump, Either}
 use Rattle.paths.specs.Paths.{IsPlace, Leads, countOf}
 use Rattle.paths.proofs.Laws.{le-or, Listing}
 use Rattle.listing.specs.Listing.{branchFlow, jumpFlow, goesFlow, foundFlow, decodedAt, flowAt}

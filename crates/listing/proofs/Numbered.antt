@@ -1,10 +1,10 @@
 -- A forbidden place's refusal names that place, and has the number 2, 3, 4, 9 or 10.
 -- Assumes nothing.
-use mathlib.Core.Path.{_≡_, refl, sym, subst, ap, _∙_}
+use mathlib.Core.Path.{_≡_, refl, subst}
 use mathlib.Core.Logic.{_⊎_, inl, inr, ⊎-elim}
 use mathlib.Core.List.{List}
 use mathlib.Core.Bool.{Bool, true, false, cond}
-use Prim.Native.Nat.{ℕ, _≤_, _<_}
+use Prim.Native.Nat.{ℕ}
 use lib.Dec.{eqb}
 use lib.ListN.{length, drop}
 use borrow.Author.Tests.{le-leb, lt-leb}
@@ -19,7 +19,7 @@ use Rattle.codes.specs.declared.Decoded.{Decoded}
 use Rattle.codes.specs.declared.Decoded.the-variants.{Code, NoCode}
 use Rattle.codes.specs.States.{statesOf, goesOf}
 use Rattle.decoder.proofs.Laws.{refused-at}
-use Rattle.flow.specs.Targets.{pcOf, nextOf, targetOf}
+use Rattle.flow.specs.Targets.{nextOf, targetOf}
 use Rattle.paths.specs.declared.Flow.{Flow}
 use Rattle.paths.specs.declared.Flow.the-variants.{Next, Jump, Either, Ends, Stop}
 use Rattle.paths.specs.Paths.{Forbidden, stop, back}

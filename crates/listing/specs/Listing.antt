@@ -17,11 +17,11 @@ use Rattle.flow.specs.Targets.{pcOf, nextOf, targetOf}
 use Rattle.paths.specs.declared.Flow.{Flow}
 use Rattle.paths.specs.declared.Flow.the-variants.{Next, Jump, Either, Ends, Stop}
 
--- by its condition's digit: BRA to its target only, BRN to the next only, other conditions to both
+-- by its condition's digit: BRA (0) to its target only, BRN (1) to the next only, other conditions to both (002:1373-1388)
 unfoldable pub branchFlow : ℕ → ℕ → ℕ → ℕ → Flow
 branchFlow c next target s = cond (eqb c 0) (Jump target s) (cond (eqb c 1) (Next next s) (Either next target s))
 
--- JMP aa:24 to its target only; JMP 59 and JMP 5B are not followed
+-- JMP aa:24 to its target only; JMP 59 and JMP 5B are not followed (002:2253-2255)
 unfoldable pub jumpFlow : ℕ → Target → ℕ → Flow
 jumpFlow p (ByReg e) s = Stop (NotFollowed p)
 jumpFlow p (Direct a) s = Jump (pcOf a) s
@@ -40,9 +40,11 @@ unfoldable pub foundFlow : ℕ → Decoded → Flow
 foundFlow p (Code i n) = goesFlow p (nextOf p n) (statesOf i) (goesOf i)
 foundFlow p (NoCode r) = Stop r
 
--- what stands at p: the bytes from there to the end of that memory are decoded
+-- "a place decodes the bytes from its address to the end of that memory". `decodeOf` is the decoder's answer, the only one that `Decodes` of the
+-- code list allows: `decoded-exact` of `proofs/Listed.antt`, `decodes-one` of the decoder's laws
 unfoldable pub decodedAt : List ℕ → ℕ → Decoded
 decodedAt rom p = decodeOf p (drop p rom)
 
+-- what stands at the place p
 unfoldable pub flowAt : List ℕ → ℕ → Flow
 flowAt rom p = cond (leb (length rom) p) (Stop (FetchOutside p)) (foundFlow p (decodedAt rom p))

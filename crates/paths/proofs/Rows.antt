@@ -1,11 +1,10 @@
 -- What the code reckons is what `Paths` says of a place: its row, and where its longest way goes on.
 -- Assumes nothing.
-use mathlib.Core.Path.{_≡_, refl, sym, subst, _∙_}
+use mathlib.Core.Path.{_≡_, refl, _∙_}
 use mathlib.Core.Logic.{_⊎_, inl, inr, ⊎-elim}
 use mathlib.Core.Bool.{Bool, true, false, cond}
 use mathlib.Core.List.{List}
 use Prim.Native.Nat.{ℕ, zero, suc, _+_, _%_, _^_, _≤_, _<_, min, max}
-use native.Mathlib.Nat.{max-eq-left, max-eq-right}
 use native.Mathlib.Omega.{arith}
 use lib.Dec.{eqb}
 use lib.ListN.{getD}
@@ -16,10 +15,10 @@ use Rattle.paths.specs.declared.Reckoned.{Reckoned}
 use Rattle.paths.specs.declared.Flow.{Flow}
 use Rattle.paths.specs.declared.Flow.the-variants.{Next, Jump, Either, Ends, Stop}
 use Rattle.paths.specs.declared.WayOn.{WayOn}
-use Rattle.paths.specs.declared.WayOn.the-variants.{On, Home, NoWay}
+use Rattle.paths.specs.declared.WayOn.the-variants.{On}
 use Rattle.paths.specs.Paths.{IsPlace, Leads, countOf, Forbidden, stop, back, Open, Path, ends, goes, Largest, Clear, Row, RowsFrom, Follows, home, on}
-use Rattle.paths.specs.MirrorRows.{barred, rowOf, joined, upwardOf, reckonedOf, whyOf, betterOf, onwardOf}
-use Rattle.paths.proofs.Laws.{le-or, Both, both-next, both-jump, both-either, Listing, up, no-way-stop, row-one, row-stop, row-ends, row-join, meets-in, row-outside, row-small, row-figure, clear-open, clear-on, clear-in, largest-one, largest-join, row-clear}
+use Rattle.paths.specs.MirrorRows.{rowOf, joined, upwardOf, reckonedOf, whyOf, betterOf, onwardOf}
+use Rattle.paths.proofs.Laws.{le-or, Both, both-next, both-jump, both-either, Listing, up, no-way-stop, row-stop, row-ends, row-join, meets-in, row-outside, row-small, clear-open, clear-on, clear-in, largest-one, largest-join, row-clear}
 
 abbrev RowIs : (ℕ → Flow) → ℕ → Reckoned → Type 0
 RowIs flow p r = Row flow p (r .figure) (r .low)

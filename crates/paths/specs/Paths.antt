@@ -1,4 +1,5 @@
--- Document 01, "The routine's figure". `flow p` says what stands at the place p: where paths go from it, and its states. Nothing here speaks of how a figure is found.
+-- Document 01, "The routine's figure". `flow p` says what stands at the place p: where paths go from it, and its states.
+-- Nothing here speaks of an instruction set, or of how a figure is found.
 use mathlib.Core.Path.{_≡_}
 use mathlib.Core.Logic.{_⊎_}
 use mathlib.Core.List.{List}
@@ -32,11 +33,12 @@ countOf (Either n t s) = s
 countOf (Ends s) = s
 countOf (Stop r) = 0
 
--- the place p is forbidden, by r: by what stands there (2, 3, 4, 9), or by a path to a target not above its own address (10)
+-- the place p is forbidden, with its refusal: by what stands there (2, 3, 4, 9), or by a path to a target not above its own address (10)
 pub data Forbidden (flow : ℕ → Flow) : ℕ → Refusal → Type 0 where
   stop : {p : ℕ} {r : Refusal} → flow p ≡ Stop r → Forbidden flow p r
   back : {p q : ℕ} → Leads (flow p) q → q ≤ p → Forbidden flow p (NotUpward p)
 
+-- the place p is not forbidden
 abbrev pub Open : (ℕ → Flow) → ℕ → Type 0
 Open flow p = (r : Refusal) → Forbidden flow p r → ⊥
 
@@ -69,11 +71,11 @@ pub data Row (flow : ℕ → Flow) (p : ℕ) : ℕ → ℕ → Type 0 where
   figure : {n : ℕ} → Clear flow p → Largest flow p n → Row flow p n 16777215
   refused : {f : ℕ} → Lowest flow p f → Row flow p 0 f
 
--- the rows of the places from i up, of a memory of `len` bytes: two numbers a place, in rising order, so those of p stand at p and p + 1
+-- a table's rows of the places from i up, of a memory of `len` bytes: two numbers a place, in rising order, so those of p stand at p and p + 1
 abbrev pub RowsFrom : (ℕ → Flow) → ℕ → List ℕ → ℕ → Type 0
 RowsFrom flow len table i = (p : ℕ) → i ≤ p → p % 2 ≡ 0 → p < len → Row flow p (getD table p 0) (getD table (p + 1) 0)
 
--- followed from p, `next` is a path to a return, whose instructions have n states in all
+-- `next`, followed from p, is a path to a return, whose instructions have n states in all
 pub data Follows (flow : ℕ → Flow) (next : ℕ → WayOn) : ℕ → ℕ → Type 0 where
   home : {p n : ℕ} → next p ≡ Home → flow p ≡ Ends n → Follows flow next p n
   on : {p q n : ℕ} → next p ≡ On q → Open flow p → Leads (flow p) q → Follows flow next q n → Follows flow next p (countOf (flow p) + n)

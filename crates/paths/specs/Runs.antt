@@ -1,11 +1,12 @@
--- A run of any machine: the repeated step up to its first completed return, and what a figure promises of it. Document 01, "The routine's figure": "In demand 3 a run returns when its first RTS completes; it is read as the repeated step from PC at the entry, with no stop address and enough budget, and a refused step adds no step or state."
+-- A run of any machine, and what a figure promises of it. Document 01, "The routine's figure": "In demand 3 a run returns when its first RTS
+-- completes; it is read as the repeated step from PC at the entry, with no stop address and enough budget, and a refused step adds no step or state."
 use mathlib.Core.Path.{_≡_}
 use mathlib.Core.Logic.{_⊎_}
 use Prim.Native.Nat.{ℕ, _+_, _*_, _≤_}
 use Rattle.refusal.specs.declared.Refusal.{Refusal}
 use Rattle.refusal.specs.Refusals.{numberOf}
 
--- what a run sees of a machine: PC of a state, a step that completes with so many states, a step that is refused, and whether RTS stands at PC
+-- what a run sees of a machine: PC of a state; a step that completes, with its states; a step that is refused; and whether RTS stands at PC
 pub record Machine : Type 1 where
   pub State : Type 0
   pub pc : State → ℕ

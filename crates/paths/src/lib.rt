@@ -1,10 +1,10 @@
 // Paths over a listing: document 01, "The routine's figure". `Flow` is all they know of an instruction set.
 use refusal::Refusal;
 ghost use mathlib.Core.Path.{_≡_};
-ghost use mathlib.Core.Bool.{cond};
+ghost use mathlib.Core.Bool.{cond, _||_};
 ghost use Prim.Native.Nat.{min, max};
 ghost use lib.ListN.{getD};
-ghost use lib.Dec.{eqb};
+ghost use lib.Dec.{leb, eqb};
 ghost use Rattle.paths.specs.MirrorRows.{barred, rowOf, joined, upwardOf, reckonedOf, whyOf, betterOf, onwardOf};
 
 // Where paths go from a place, with the states of what stands there.
@@ -111,11 +111,19 @@ fn above(len: usize, table: &[u64], n: u32, t: u32, s: u64) -> Reckoned
     join(s, a, b)
 }
 
+// Whether a way of p does not go up.
+fn goes_back(p: u32, n: u32, t: u32) -> bool
+    ensures { λ r. ⌜ r ≡ (leb n p || leb t p) ⌝ }
+{
+    (n <= p) | (t <= p)
+}
+
 // The same, where a way that does not go up forbids p.
 fn upward(len: usize, table: &[u64], p: u32, n: u32, t: u32, s: u64) -> Reckoned
     ensures { λ r. ⌜ r ≡ upwardOf len (now (table .entry)) p n t s ⌝ }
 {
-    if (n <= p) | (t <= p) {
+    let back = goes_back(p, n, t);
+    if back {
         bar(p)
     } else {
         above(len, table, n, t, s)

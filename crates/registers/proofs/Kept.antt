@@ -13,8 +13,9 @@ use lib.Seq.{getD-set-same, getD-set-other}
 use Rattle.arith.specs.Widths.{bitsOf}
 use Rattle.arith.specs.declared.Width.{Width}
 use Rattle.arith.specs.declared.Width.the-variants.{Byte, Word, Long}
+use Rattle.registers.specs.declared.Condition.{Condition}
 use Rattle.registers.specs.declared.Registers.{Registers}
-use Rattle.registers.specs.Parts.{belowOf, partOf, insertOf, withPart, withPc}
+use Rattle.registers.specs.Parts.{belowOf, partOf, insertOf, withPart, withCondition, withPc}
 
 -- the five kinds of part: RnH, RnL, Rn, En, ERn, by what lies below and by the part's own power
 module _ (P : ℕ → ℕ → Type 0) (RnH : P 256 256) (RnL : P 1 256) (Rn : P 1 65536) (En : P 65536 65536) (ERn : P 1 4294967296) where
@@ -106,3 +107,9 @@ whole-part w r d x whole =
 -- PC is even and below 2 ^ 24 once it is set
 pub pc-even : (r : Registers) (p : ℕ) → (withPc r p .pc % 2 ≡ 0) × (withPc r p .pc < 2 ^ 24)
 pc-even r p = (omega arith, omega arith)
+
+pub whole-condition : (r : Registers) (f : Condition) → Whole r → Whole (withCondition r f)
+whole-condition r f whole = record { eight = whole .eight; words = whole .words }
+
+pub whole-pc : (r : Registers) (p : ℕ) → Whole r → Whole (withPc r p)
+whole-pc r p whole = record { eight = whole .eight; words = whole .words }

@@ -218,7 +218,7 @@ pub fn fetch(r: Registers, b: Board, rom: &[u8], ram: &mut [u8]) -> StepAnswer
     }
 }
 
-fn good_pc(pc: u32) -> bool
+pub fn good_pc(pc: u32) -> bool
     ensures { λ t. ⌜ t ≡ goodPc pc ⌝ }
 {
     (pc % 2 == 0) & (pc < 16777216)

@@ -1,12 +1,9 @@
 use native.Mathlib.Omega.{arith}
 use Rattle.codes.proofs.Laws.{bytes-of}
-use mathlib.Core.Path.{_≡_, sym, _∙_}
-use mathlib.Core.List.{List}
-use lib.ListN.{length}
+use mathlib.Core.Path.{sym, _∙_}
 use denote.Ref.{now}
-use Rattle.figure.specs.declared.Asked.the-variants.{Fit}
-use Rattle.figure.specs.Answer.{askedOf}
-use Rattle.figure.proofs.Answered.{Good, fit-good, figured-unfit, figured-fit, promised}
+use Rattle.figure.proofs.Answered.{fit-good, figured-unfit, figured-fit}
+use Rattle.figure.proofs.Promise.{promised}
 use borrow.Author.Needs.{needs}
 use Rattle.figure.proofs.figure.Statement.{statement}
 use Rattle.figure.proofs.figure.Tie as tie
@@ -17,5 +14,18 @@ figure-spec =
     (tie.spec (λ c κs. search needs) (λ c. search needs)
     (λ c κs. let s = c .before .before .before .before .before .before in let g = fit-good _ _ _ (sym (c .before .before .before .look .ensures) ∙ c .before .enum-told .given .1) in (g .even, g .small, g .room))
     (λ c κs. search needs) (λ c κs. search needs) (λ c. search needs) (λ c. search needs)
-    (λ c. let f = c .before .before .before .before .before in let s = f .before .before .before .before .before .before .before in promised (rw (c .told .ensures, c .before .row-of .ensures) (figured-fit (now (s .args .rom)) (bytes-of (now (s .args .rom)) (λ k. omega (arith, f .before .before .before .before .before .before .shared-slice-known .given k))) (s .args .entry) (now (s .args .table)) (f .fill .last .1 .0) (sym (f .before .before .before .before .look .ensures) ∙ f .before .before .enum-told .given .1) (f .fill .ensures))))
-    (λ c. let s = c .before .before .before .before .before .before in promised (figured-unfit (now (s .args .rom)) (s .args .entry) (now (s .args .table)) _ (sym (c .before .before .before .look .ensures) ∙ c .before .a .given .1))))
+    (λ c.
+    let f = c .before .before .before .before .before in
+    let l = f .before .before .before .before .before .before in
+    let s = l .before .args in
+    let bytes = bytes-of (now (s .rom)) (λ k. omega (arith, l .shared-slice-known .given k)) in
+    promised (now (s .rom)) (s .entry) (now (s .table)) (c .told .result) (f .fill .last .1 .0) bytes
+    (rw (c .told .ensures, c .before .row-of .ensures)
+    (figured-fit (now (s .rom)) bytes (s .entry) (now (s .table)) (f .fill .last .1 .0)
+    (sym (f .before .before .before .before .look .ensures) ∙ f .before .before .enum-told .given .1) (f .fill .ensures))))
+    (λ c.
+    let l = c .before .before .before .before .before in
+    let s = l .before .args in
+    let bytes = bytes-of (now (s .rom)) (λ k. omega (arith, l .shared-slice-known .given k)) in
+    promised (now (s .rom)) (s .entry) (now (s .table)) _ (now (s .table)) bytes
+    (figured-unfit (now (s .rom)) (s .entry) (now (s .table)) _ (sym (c .before .before .before .look .ensures) ∙ c .before .a .given .1))))

@@ -1,6 +1,5 @@
-use mathlib.Core.Path.{_≡_, refl, _∙_, subst, sym}
-use mathlib.Core.List.{List}
-use Prim.Native.Nat.{ℕ, _+_, _-_, _%_, _≤_, _<_}
+use mathlib.Core.Path.{_≡_, refl, _∙_}
+use Prim.Native.Nat.{ℕ, _-_, _%_, _≤_}
 use native.Mathlib.Nat.{le-refl}
 use native.Mathlib.Omega.{arith}
 use lib.ListN.{length, getD, length-set}
@@ -14,9 +13,6 @@ use Rattle.listing.specs.Listing.{flowAt}
 use Rattle.listing.proofs.Listed.{listing}
 use Rattle.figure.proofs.fill.Statement.{statement}
 use Rattle.figure.proofs.fill.Tie as tie
-use Rattle.figure.proofs.fill.Reads as reads
-use Rattle.figure.proofs.fill.Lts as lts
-use Rattle.figure.proofs.row.Reads as row-reads
 
 abbrev Inv-loop : tie.InvT-loop
 Inv-loop rom table₀ p₀ table p = (p ≤ length rom) × (p % 2 ≡ 0) × (length table ≡ length table₀) × RowsFrom (flowAt rom) (length rom) table p × ((i : ℕ) → length rom ≤ i → getD table i 0 ≡ getD table₀ i 0)
@@ -24,43 +20,33 @@ Inv-loop rom table₀ p₀ table p = (p ≤ length rom) × (p % 2 ≡ 0) × (len
 abbrev μ-loop : tie.MeasureT-loop
 μ-loop rom table₀ p₀ table p = p
 
--- src/lib.rt:64:5
 loop-holds : tie.Need-loop-holds Inv-loop μ-loop
 loop-holds c = (le-refl _, c .before .before .pre .0, refl, (λ q h e l. absurd (omega arith)), (λ i h. refl))
 
--- src/lib.rt:65:9
 sub-p : tie.Need-sub-p Inv-loop μ-loop
 sub-p c = omega arith
 
--- src/lib.rt:66:33
 cast-row : tie.Need-cast-row Inv-loop μ-loop
 cast-row c = omega arith
 
--- src/lib.rt:66:13
 row-requires : tie.Need-row-requires Inv-loop μ-loop
 row-requires c κs = search needs
 
--- src/lib.rt:69:9
 mul-table : tie.Need-mul-table Inv-loop μ-loop
 mul-table c = search needs
 
--- src/lib.rt:69:9
 slice-write-table : tie.Need-slice-write-table Inv-loop μ-loop
 slice-write-table c = omega arith
 
--- src/lib.rt:70:15
 add-table : tie.Need-add-table Inv-loop μ-loop
 add-table c = omega arith
 
--- src/lib.rt:70:9
 mul-table-2 : tie.Need-mul-table-2 Inv-loop μ-loop
 mul-table-2 c = search needs
 
--- src/lib.rt:70:9
 slice-write-table-2 : tie.Need-slice-write-table-2 Inv-loop μ-loop
 slice-write-table-2 c = simp length-set (omega arith)
 
--- src/lib.rt:64:5
 loop-less : tie.Need-loop-less Inv-loop μ-loop
 loop-less c = omega arith
 
@@ -71,7 +57,6 @@ row-now c =
     let l = c .before .before .before .loop in
     rw (c .row .ensures) (row-reckoned (flowAt (now (s .args .rom))) (length (now (s .args .rom))) (listing (now (s .args .rom)) (bytes-of (now (s .args .rom)) (λ k. omega (arith, c .before .before .before .before .before .shared-slice-known .given k))) (s .pre .0) (s .pre .1)) (l .table) (l .p - 2) (record { even = omega arith; in-range = omega arith }) (λ q h. l .inv .3 q (omega arith)))
 
--- src/lib.rt:64:5
 loop-again : tie.Need-loop-again Inv-loop μ-loop
 loop-again c = let s = c .before .before .before .before .before .before in
     let l = c .before .before .before .loop in
@@ -85,11 +70,9 @@ loop-again c = let s = c .before .before .before .before .before .before in
       (λ j h. stored-rest (l .table) (l .p - 2) (r .figure) (r .low) (length (now (s .args .rom))) (omega arith) j h ∙ i .4 j h),
     )
 
--- src/lib.rt:59:1
 same-length : tie.Need-same-length Inv-loop μ-loop
 same-length c = c .before .loop .inv .2
 
--- src/lib.rt:59:1
 returns : tie.Need-returns Inv-loop μ-loop
 returns c = let i = c .before .loop .inv in record { same-length = i .2; rows = λ q h. i .3 q (omega arith); rest = i .4 }
 

@@ -1,6 +1,5 @@
 use native.Mathlib.Omega.{arith}
 use Rattle.codes.proofs.Laws.{bytes-of}
-use mathlib.Core.Path.{_≡_, sym, _∙_}
 use denote.Ref.{now}
 use Rattle.figure.specs.MirrorFigure.{wayOf, wayAsked}
 use Rattle.figure.proofs.Ways.{way-told}

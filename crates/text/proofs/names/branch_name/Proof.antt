@@ -6,6 +6,9 @@ use borrow.Author.Needs.{needs}
 use Rattle.text.proofs.names.branch_name.Statement.{statement}
 use Rattle.text.proofs.names.branch_name.Tie as tie
 
+three : (x : ℕ) → x + 3 - x ≡ 3
+three x = omega arith
+
 pub branch-name-spec : {M : Type 1} → statement M
 unfolding branchName
 branch-name-spec =

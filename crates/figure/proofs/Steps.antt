@@ -1,0 +1,174 @@
+-- A step of the processor goes where the paths of its listing go, by the few cases of where PC can go; and it has one answer. Assumes nothing.
+use mathlib.Core.Path.{_≡_, refl, sym, _∙_, ap}
+use mathlib.Core.Logic.{_⊎_, inl, inr, ⊎-elim}
+use mathlib.Core.Bool.{Bool, true, false, cond, _&&_, xor}
+use mathlib.Core.List.{List}
+use Prim.Native.Nat.{ℕ, _+_, _*_, _/_, _%_, _^_, _≤_, _<_}
+use native.Mathlib.Nat.{le-refl}
+use native.Mathlib.Omega.{arith}
+use lib.Dec.{eqb, ltb, leb}
+use lib.ListN.{length, drop}
+use borrow.Author.Tests.{eq-eqb, eqb-true, lt-ltb, ltb-true, ltb-false, le-leb, lt-leb}
+use Rattle.refusal.specs.Refusals.{numberOf}
+use Rattle.refusal.specs.declared.Refusal.{Refusal}
+use Rattle.refusal.specs.declared.Refusal.the-variants.{FetchOutside, NotFollowed}
+use Rattle.refusal.specs.declared.Outcome.the-variants.{Done, Refused}
+use Rattle.codes.specs.States.{statesOf, goesOf}
+use Rattle.codes.specs.Exact.{Bytes}
+use Rattle.codes.specs.declared.Instruction.{Instruction}
+use Rattle.codes.specs.declared.Goes.{Goes}
+use Rattle.codes.specs.declared.Goes.the-variants.{Onward, Branches, Jumps, CallsNear, Calls, Returns}
+use Rattle.codes.specs.declared.Target.{Target}
+use Rattle.codes.specs.declared.Target.the-variants.{ByReg, Direct, Vector}
+use Rattle.codes.specs.declared.Reach.{Reach}
+use Rattle.codes.specs.declared.Decoded.{Decoded}
+use Rattle.codes.specs.declared.Decoded.the-variants.{Code, NoCode}
+use Rattle.codes.proofs.Laws.{bytes-drop}
+use Rattle.decoder.specs.MirrorDecode.{decodeOf}
+use Rattle.decoder.proofs.Laws.{code-read}
+use Rattle.flow.specs.Targets.{pcOf, nextOf, targetOf}
+use Rattle.flow.proofs.Signed.{target-even, target-in}
+use Rattle.registers.specs.declared.Condition.{Condition}
+use Rattle.registers.specs.declared.Registers.{Registers}
+use Rattle.registers.specs.Parts.{withPc}
+use Rattle.memory.specs.Board.{goodBoard}
+use Rattle.memory.specs.declared.Board.{Board}
+use Rattle.memory.specs.declared.Got.{Got}
+use Rattle.memory.specs.declared.Got.the-variants.{Value, NotRead}
+use Rattle.step.specs.Follow.{evenCondition, holdsOf, aimOf, followOf}
+use Rattle.step.specs.Step.{After, after, answered, stays, goodPc, fetchOf, stepOf}
+use Rattle.step.proofs.Laws as Laws
+use Rattle.step.proofs.Laws.{Comes, outside, no-code, completes, comes, step-is}
+use Rattle.paths.specs.declared.Flow.{Flow}
+use Rattle.paths.specs.declared.Flow.the-variants.{Next, Jump, Either, Ends, Stop}
+use Rattle.paths.specs.Paths.{IsPlace, Leads, countOf}
+use Rattle.paths.specs.Runs.{Machine, ByData}
+use Rattle.paths.proofs.Laws.{le-or}
+use Rattle.paths.proofs.Sound.{Stepped, back-home, went, by-data, OneStep}
+use Rattle.listing.specs.Listing.{branchFlow, jumpFlow, goesFlow, foundFlow, decodedAt, flowAt}
+use Rattle.figure.specs.Bound.{State, processor}
+
+five-six-seven : (n : ℕ) → 5 ≤ n → n ≤ 7 → (n ≡ 5) ⊎ (n ≡ 6) ⊎ (n ≡ 7)
+five-six-seven n l m = ⊎-elim (λ (h : n ≤ 5). inl (omega arith)) (λ (h : 5 < n). inr (⊎-elim (λ (k : n ≤ 6). inl (omega arith)) (λ (k : 6 < n). inr (omega arith)) (le-or n 6))) (le-or n 5)
+
+-- an even address below 2^24 is what PC holds when it is set to it
+place-stays : (p : ℕ) → p % 2 ≡ 0 → p < 16777216 → p % 2 ^ 24 / 2 * 2 ≡ p
+place-stays p e l = omega arith
+
+-- BRA holds and BRN doesn't
+always : (f : Condition) → holdsOf 0 f ≡ true
+unfolding holdsOf evenCondition xor
+always f = refl
+
+never : (f : Condition) → holdsOf 1 f ≡ false
+unfolding holdsOf evenCondition xor
+never f = refl
+
+-- a branch goes to the next instruction n or to its target t, BRA and BRN to one of them
+module _ (f : Condition) (c n t k p : ℕ) (n-stays : n % 2 ^ 24 / 2 * 2 ≡ n) (t-stays : t % 2 ^ 24 / 2 * 2 ≡ t) where
+  by-condition : (h : Bool) → p ≡ cond h t n → (p % 2 ^ 24 / 2 * 2 ≡ n) ⊎ (p % 2 ^ 24 / 2 * 2 ≡ t)
+  by-condition true e = inr (rw e t-stays)
+  by-condition false e = inl (rw e n-stays)
+
+  by-digit : (x y : Bool) → eqb c 0 ≡ x → eqb c 1 ≡ y → p ≡ cond (holdsOf c f) t n → Leads (cond x (Jump t k) (cond y (Next n k) (Either n t k))) (p % 2 ^ 24 / 2 * 2)
+  by-digit true y ex ey e = let z : c ≡ 0 = eqb-true c 0 ex in let h : p ≡ t = e ∙ rw (z, always f) in rw h t-stays
+  by-digit false true ex ey e = let z : c ≡ 1 = eqb-true c 1 ey in let h : p ≡ n = e ∙ rw (z, never f) in rw h n-stays
+  by-digit false false ex ey e = by-condition (holdsOf c f) e
+
+  branch-leads : p ≡ cond (holdsOf c f) t n → Leads (branchFlow c n t k) (p % 2 ^ 24 / 2 * 2)
+  unfolding branchFlow
+  branch-leads e = by-digit _ _ refl refl e
+
+branch-count : (n t k : ℕ) (x y : Bool) → k ≤ countOf (cond x (Jump t k) (cond y (Next n k) (Either n t k)))
+branch-count n t k true y = le-refl k
+branch-count n t k false true = le-refl k
+branch-count n t k false false = le-refl k
+
+module _ (b : Board) (rom : List ℕ) (bytes : Bytes rom) where
+  -- working memory keeps its length, so the board stays right
+  abbrev pub Kept : State → Type 0
+  Kept s = goodBoard b (length rom) (length (s .mem)) ≡ true
+
+  module _ (s : State) where
+    abbrev r : Registers
+    r = s .regs
+
+    abbrev pc : ℕ
+    pc = s .regs .pc
+
+    -- where the instruction at PC goes, if PC goes where the listing says
+    module _ (i : Instruction) (n : ℕ) (inside : pc < length rom) (d : decodedAt rom pc ≡ Code i n) (z : IsPlace pc) where
+      next : ℕ
+      next = nextOf pc n
+
+      flow-is : flowAt rom pc ≡ goesFlow pc (nextOf pc n) (statesOf i) (goesOf i)
+      unfolding flowAt foundFlow
+      flow-is = rw (lt-leb (length rom) pc inside, d)
+
+      next-even : nextOf pc n % 2 ≡ 0
+      unfolding decodedAt
+      next-even = omega (arith, z .even, code-read pc (drop pc rom) i n (bytes-drop pc rom bytes) d .sized .even)
+
+      leads : (g : Goes) → ((f : Refusal) → goesFlow pc (nextOf pc n) (statesOf i) g ≡ Stop f → ⊥) → (g ≡ Returns → ⊥) → (p : ℕ)
+          → followOf r b rom (s .mem) g (nextOf pc n) ≡ Value p → Leads (goesFlow pc (nextOf pc n) (statesOf i) g) (p % 2 ^ 24 / 2 * 2)
+      unfolding goesFlow followOf jumpFlow aimOf
+      leads Onward free out p e = let h : p ≡ nextOf pc n = cc in rw h (place-stays (nextOf pc n) next-even (omega arith))
+      leads (Branches c reach) free out p e =
+          let h : p ≡ cond (holdsOf c (r .condition)) (targetOf (nextOf pc n) reach) (nextOf pc n) = cc in
+          branch-leads (r .condition) c (nextOf pc n) (targetOf (nextOf pc n) reach) (statesOf i) p (place-stays (nextOf pc n) next-even (omega arith))
+          (place-stays (targetOf (nextOf pc n) reach) (target-even (nextOf pc n) reach) (target-in (nextOf pc n) reach)) h
+      leads (Jumps (ByReg x)) free out p e = absurd (free (NotFollowed pc) refl)
+      leads (Jumps (Direct a)) free out p e = let h : p ≡ a = cc in rw h
+      leads (Jumps (Vector a)) free out p e = absurd (free (NotFollowed pc) refl)
+      leads (CallsNear reach) free out p e = absurd (free (NotFollowed pc) refl)
+      leads (Calls t) free out p e = absurd (free (NotFollowed pc) refl)
+      leads Returns free out p e = absurd (out refl)
+
+      -- RTS stands at PC exactly if the instruction there returns
+      returns-not : (goesOf i ≡ Returns → ⊥) → processor b rom .AtReturn s → ⊥
+      returns-not out (j, m, e, g) = let h : i ≡ j = cc in out (rw h g)
+
+      counts : (g : Goes) → ((f : Refusal) → goesFlow pc (nextOf pc n) (statesOf i) g ≡ Stop f → ⊥) → statesOf i ≤ countOf (goesFlow pc (nextOf pc n) (statesOf i) g)
+      unfolding goesFlow jumpFlow branchFlow
+      counts Onward free = le-refl (statesOf i)
+      counts (Branches c reach) free = branch-count (nextOf pc n) (targetOf (nextOf pc n) reach) (statesOf i) (eqb c 0) (eqb c 1)
+      counts (Jumps (ByReg x)) free = absurd (free (NotFollowed pc) refl)
+      counts (Jumps (Direct a)) free = le-refl (statesOf i)
+      counts (Jumps (Vector a)) free = absurd (free (NotFollowed pc) refl)
+      counts (CallsNear reach) free = absurd (free (NotFollowed pc) refl)
+      counts (Calls t) free = absurd (free (NotFollowed pc) refl)
+      counts Returns free = le-refl (statesOf i)
+
+      module _ (p : ℕ) (q : Registers) (m : List ℕ) (same : length m ≡ length (s .mem)) (kept : Kept s)
+          (free : (f : Refusal) → flowAt rom pc ≡ Stop f → ⊥) (step : stepOf b rom (s .mem) r ≡ after (answered (withPc q p) (statesOf i) Done) m) where
+        -- the listing is the instruction's
+        here : (g : Goes) → goesOf i ≡ g → flowAt rom pc ≡ goesFlow pc (nextOf pc n) (statesOf i) g
+        here g h = flow-is ∙ ap (λ (x : Goes). goesFlow pc (nextOf pc n) (statesOf i) x) h
+
+        goes-on : (g : Goes) → goesOf i ≡ g → (g ≡ Returns → ⊥) → followOf r b rom (s .mem) g (nextOf pc n) ≡ Value p → Stepped (processor b rom) Kept (flowAt rom pc) s
+        goes-on g h out e =
+            let clear : (f : Refusal) → goesFlow pc (nextOf pc n) (statesOf i) g ≡ Stop f → ⊥ = λ f x. free f (here g h ∙ x) in
+            rw (here g h)
+            (went {t = record { regs = withPc q p; mem = m }} (returns-not (λ x. out (sym h ∙ x))) step (rw same kept) (leads g clear out p e) (counts g clear))
+
+        completed : (g : Goes) → goesOf i ≡ g → followOf r b rom (s .mem) g (nextOf pc n) ≡ Value p → Stepped (processor b rom) Kept (flowAt rom pc) s
+        unfolding goesFlow
+        completed Onward h e = goes-on Onward h (λ x. let z : _≡_ {A = ℕ} 0 1 = cc in omega arith) e
+        completed (Branches c reach) h e = goes-on (Branches c reach) h (λ x. let z : _≡_ {A = ℕ} 0 1 = cc in omega arith) e
+        completed (Jumps t) h e = goes-on (Jumps t) h (λ x. let z : _≡_ {A = ℕ} 0 1 = cc in omega arith) e
+        completed (CallsNear reach) h e = goes-on (CallsNear reach) h (λ x. let z : _≡_ {A = ℕ} 0 1 = cc in omega arith) e
+        completed (Calls t) h e = goes-on (Calls t) h (λ x. let z : _≡_ {A = ℕ} 0 1 = cc in omega arith) e
+        completed Returns h e = back-home {t = record { regs = withPc q p; mem = m }} (i, n, d, h) step (here Returns h) (le-refl (statesOf i))
+
+    module _ (z : IsPlace pc) (kept : Kept s) (free : (f : Refusal) → flowAt rom pc ≡ Stop f → ⊥) where
+      come : (a : After) → Comes r b rom (s .mem) a → stepOf b rom (s .mem) r ≡ a → Stepped (processor b rom) Kept (flowAt rom pc) s
+      unfolding flowAt foundFlow decodedAt
+      come a (outside l) e = absurd (free (FetchOutside pc) (rw (le-leb (length rom) pc (ltb-false pc (length rom) l))))
+      come a (no-code f l d) e = absurd (free f (rw (lt-leb (length rom) pc (ltb-true pc (length rom) l), d)))
+      come a (Laws.by-data i n f l d k) e = by-data e (five-six-seven (numberOf f) (k .least) (k .most))
+      come a (completes i n p q m l d g e′ k h) e = completed i n (ltb-true pc (length rom) l) d z p q m k kept free e (goesOf i) refl g
+
+      pub goes-where : Stepped (processor b rom) Kept (flowAt rom pc) s
+      goes-where =
+          let x : goodPc pc ≡ true = rw (eq-eqb (pc % 2) 0 (z .even), lt-ltb pc (2 ^ 24) (z .in-range)) in
+          come (fetchOf r b rom (s .mem)) (comes r b rom (s .mem)) (step-is r b rom (s .mem) kept x)
