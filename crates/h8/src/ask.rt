@@ -73,7 +73,7 @@ fn dashed(i: usize) -> bool {
     two_dashes(&buf[..n])
 }
 
-fn kind(i: usize) -> Kind {
+fn kind_of(i: usize) -> Kind {
     if is(i, b"--plain") {
         return Kind::Plain;
     }
@@ -169,12 +169,12 @@ fn counted(n: usize) -> usize
     if n < 1001 { n } else { 1001 }
 }
 
-pub fn request() -> Request {
+pub fn requested() -> Request {
     let count = counted(os::arg_count());
     let mut q = none(count);
     let mut i: usize = 1;
     while i < count {
-        let k = kind(i);
+        let k = kind_of(i);
         q = noted(q, k, i);
         i += width(k);
     }
@@ -270,7 +270,7 @@ fn number_in(s: &[u8]) -> Number {
     }
 }
 
-pub fn number(i: usize) -> Number {
+pub fn number_at(i: usize) -> Number {
     let mut buf = io::buffer();
     let n = os::arg(i, &mut buf);
     number_in(&buf[..n])

@@ -8,7 +8,7 @@ use registers::Condition;
 use registers::Registers;
 
 // `bad` where a line has said which argument is wrong.
-pub struct Start {
+pub struct Begun {
     pub regs: Registers,
     pub bad: bool,
 }
@@ -29,8 +29,8 @@ pub fn optional(q: Request, name: &[u8], i: usize, otherwise: u64, expected: &[u
     value(q, name, i, 1, 4294967295, expected)
 }
 
-fn cleared(entry: u32) -> Start {
-    Start {
+fn cleared(entry: u32) -> Begun {
+    Begun {
         regs: Registers {
             er: [0u32; 8],
             pc: entry,
@@ -40,21 +40,21 @@ fn cleared(entry: u32) -> Start {
     }
 }
 
-fn spoiled(s: Start) -> Start {
+fn spoiled(s: Begun) -> Begun {
     let r = s.regs;
-    Start { regs: r, bad: true }
+    Begun { regs: r, bad: true }
 }
 
-fn with_er(s: Start, n: u64, v: u64) -> Start {
+fn with_er(s: Begun, n: u64, v: u64) -> Begun {
     let r = registers::with_part(Width::Long, s.regs, (n % 8) as u8, (v % 4294967296) as u32);
-    Start {
+    Begun {
         regs: r,
         bad: s.bad,
     }
 }
 
 // The register that the option --er at argument i sets.
-fn er(q: Request, s: Start, i: usize) -> Start {
+fn er(q: Request, s: Begun, i: usize) -> Begun {
     if s.bad {
         return s;
     }
@@ -75,7 +75,7 @@ fn er(q: Request, s: Start, i: usize) -> Start {
 }
 
 // Registers are 0 but for those that --er sets, and PC, which is the entry; all flags are 0.
-pub fn start(q: Request, entry: u32) -> Start {
+pub fn start(q: Request, entry: u32) -> Begun {
     let mut s = cleared(entry);
     let count = q.count;
     let mut i: usize = 1;

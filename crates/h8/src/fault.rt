@@ -79,7 +79,7 @@ pub fn number(q: Request, name: &[u8], i: usize, most: u64, expected: &[u8]) -> 
     if q.count <= i {
         return no(q, name, expected);
     }
-    match ask::number(i) {
+    match ask::number_at(i) {
         Number::Value(v) => within(q, name, i, most, expected, v),
         Number::NotNumber => not(q, name, i, expected),
         Number::TooLarge => not(q, name, i, expected),

@@ -1,4 +1,5 @@
 // h8 list: place, bytes, text, states, and for each place its figure or its lowest forbidden place.
+ghost use Prim.Native.Nat.{_≤_};
 use crate::show;
 use codes::Decoded;
 use paths::Reckoned;

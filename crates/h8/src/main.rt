@@ -198,7 +198,7 @@ fn with_file(q: Request, u: Use, rom: &mut [u8], table: &mut [u64], ram: &mut [u
         return;
     };
     if n <= rom.len() {
-        answer(q, u, &rom[..n], table, ram);
+        answer(q, u, &rom[0..n], table, ram);
     }
 }
 
@@ -211,7 +211,7 @@ fn with_room(q: Request, u: Use) {
 }
 
 fn main() {
-    let q = ask::request();
+    let q = ask::requested();
     let u = used(q);
     if faulty(q, u) {
         return;

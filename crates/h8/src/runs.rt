@@ -204,7 +204,7 @@ fn go(rom: &[u8], ram: &mut [u8], g: Given, r: Registers, plain: bool) {
 fn lent(rom: &[u8], ram: &mut [u8], g: Given, r: Registers, plain: bool) {
     let n = g.length as usize;
     if n <= ram.len() {
-        go(rom, &mut ram[..n], g, r, plain);
+        go(rom, &mut ram[0..n], g, r, plain);
     }
 }
 

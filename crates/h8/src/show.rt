@@ -2,12 +2,20 @@
 use refusal::Refusal;
 use text::Line;
 
+fn write_first(s: &[u8], n: usize) {
+    if n <= s.len() {
+        io::write_all(1, &s[0..n]);
+    }
+}
+
+// An array, so that its length needs no proof.
+fn write_text(t: &[u8; 192], n: usize) {
+    write_first(t, n);
+}
+
 fn write(l: Line) {
     let t = l.text;
-    let n = l.n;
-    if n <= 192 {
-        io::write_all(1, &t[..n]);
-    }
+    write_text(&t, l.n);
 }
 
 // A line; what this program makes is shorter than a Line can be.
