@@ -1,0 +1,89 @@
+// What `h8 run` is asked, from its arguments.
+use crate::ask;
+use crate::ask::Request;
+use crate::fault;
+use crate::fault::Got;
+use arith::Width;
+use registers::Condition;
+use registers::Registers;
+
+// `bad` where a line has said which argument is wrong.
+pub struct Begun {
+    pub regs: Registers,
+    pub bad: bool,
+}
+
+// An option's value: k arguments after its name.
+pub fn value(q: Request, name: &[u8], i: usize, k: usize, most: u64, expected: &[u8]) -> Got {
+    if i == 0 {
+        return fault::number(q, name, 0, most, expected);
+    }
+    fault::number(q, name, std::num::wrapping_add_usize(i, k), most, expected)
+}
+
+// The value of an option that may be left out.
+pub fn optional(q: Request, name: &[u8], i: usize, otherwise: u64, expected: &[u8]) -> Got {
+    if i == 0 {
+        return Got::Found(otherwise);
+    }
+    value(q, name, i, 1, 4294967295, expected)
+}
+
+fn cleared(entry: u32) -> Begun {
+    Begun {
+        regs: Registers {
+            er: [0u32; 8],
+            pc: entry,
+            condition: Condition::from_byte(0),
+        },
+        bad: false,
+    }
+}
+
+fn spoiled(s: Begun) -> Begun {
+    let r = s.regs;
+    Begun { regs: r, bad: true }
+}
+
+fn with_er(s: Begun, n: u64, v: u64) -> Begun {
+    let r = registers::with_part(Width::Long, s.regs, (n % 8) as u8, (v % 4294967296) as u32);
+    Begun {
+        regs: r,
+        bad: s.bad,
+    }
+}
+
+// The register that the option --er at argument i sets.
+fn er(q: Request, s: Begun, i: usize) -> Begun {
+    if s.bad {
+        return s;
+    }
+    let Got::Found(n) = value(q, b"N of --er", i, 1, 7, b"a register's number, 0 to 7") else {
+        return spoiled(s);
+    };
+    let Got::Found(v) = value(
+        q,
+        b"VALUE of --er",
+        i,
+        2,
+        4294967295,
+        b"a number below 4294967296",
+    ) else {
+        return spoiled(s);
+    };
+    with_er(s, n, v)
+}
+
+// Registers are 0 but for those that --er sets, and PC, which is the entry; all flags are 0.
+pub fn start(q: Request, entry: u32) -> Begun {
+    let mut s = cleared(entry);
+    let count = q.count;
+    let mut i: usize = 1;
+    while i < count {
+        if ask::is(i, b"--er") {
+            s = er(q, s, i);
+        }
+        i += 1;
+    }
+    s
+}

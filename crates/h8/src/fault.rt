@@ -1,0 +1,87 @@
+// What is wrong with the arguments, in one line: the argument's name, what it is and what was expected.
+use crate::ask;
+use crate::ask::Number;
+use crate::ask::Request;
+
+pub enum Got {
+    Found(u64),
+    Wrong,
+}
+
+fn start(q: Request) {
+    if q.plain {
+        io::write_all(1, b"error ");
+    } else {
+        io::write_all(1, b"error: ");
+    }
+}
+
+// An argument as it was given.
+pub fn given(i: usize) {
+    let mut buf = io::buffer();
+    let n = os::arg(i, &mut buf);
+    if os::errno() == libc::ENAMETOOLONG {
+        io::write_all(1, b"(more than 4096 bytes)");
+    } else {
+        io::write_all(1, &buf[..n]);
+    }
+}
+
+pub fn missing(q: Request, name: &[u8], expected: &[u8]) {
+    start(q);
+    io::write_all(1, name);
+    io::write_all(1, b" is missing: expected ");
+    io::write_all(1, expected);
+    io::write_all(1, b"\n");
+}
+
+pub fn wrong(q: Request, name: &[u8], i: usize, expected: &[u8]) {
+    start(q);
+    io::write_all(1, name);
+    io::write_all(1, b" is ");
+    given(i);
+    io::write_all(1, b": expected ");
+    io::write_all(1, expected);
+    io::write_all(1, b"\n");
+}
+
+// The ROM's file and what is wrong with it.
+pub fn file(q: Request, i: usize, what: &[u8]) {
+    start(q);
+    io::write_all(1, b"ROM ");
+    given(i);
+    io::write_all(1, what);
+}
+
+fn within(q: Request, name: &[u8], i: usize, most: u64, expected: &[u8], v: u64) -> Got {
+    if v <= most {
+        return Got::Found(v);
+    }
+    wrong(q, name, i, expected);
+    Got::Wrong
+}
+
+fn not(q: Request, name: &[u8], i: usize, expected: &[u8]) -> Got {
+    wrong(q, name, i, expected);
+    Got::Wrong
+}
+
+fn no(q: Request, name: &[u8], expected: &[u8]) -> Got {
+    missing(q, name, expected);
+    Got::Wrong
+}
+
+// The number at argument i, at most `most`; if it is none, a line says so.
+pub fn number(q: Request, name: &[u8], i: usize, most: u64, expected: &[u8]) -> Got {
+    if i == 0 {
+        return no(q, name, expected);
+    }
+    if q.count <= i {
+        return no(q, name, expected);
+    }
+    match ask::number_at(i) {
+        Number::Value(v) => within(q, name, i, most, expected, v),
+        Number::NotNumber => not(q, name, i, expected),
+        Number::TooLarge => not(q, name, i, expected),
+    }
+}

@@ -1,0 +1,113 @@
+// The ROM's bytes from a file.
+use crate::ask::Request;
+use crate::fault;
+
+pub enum Loaded {
+    Bytes(usize),
+    NotLoaded,
+}
+
+fn some(fd: i32, buf: &mut [u8], at: usize) -> isize {
+    if at < buf.len() {
+        libc::read(fd, &mut buf[at..])
+    } else {
+        0
+    }
+}
+
+// Reads until the file ends or the buffer is full. Each turn moves a byte or more.
+fn fill(fd: i32, buf: &mut [u8]) -> Loaded {
+    let mut at: usize = 0;
+    let mut turns: u32 = 0xFFFFFFFF;
+    while 0 < turns {
+        let got = some(fd, buf, at);
+        if got < 0 {
+            return Loaded::NotLoaded;
+        }
+        if got == 0 {
+            return Loaded::Bytes(at);
+        }
+        at = std::num::wrapping_add_usize(at, io::count(got, &buf[..]));
+        turns -= 1;
+    }
+    Loaded::Bytes(at)
+}
+
+fn read(path: &[u8], buf: &mut [u8]) -> Loaded {
+    let fd = os::open_read(path);
+    if fd < 0 {
+        return Loaded::NotLoaded;
+    }
+    fill(fd, buf)
+}
+
+// Why a file can't be read, by the system's number.
+fn reason(e: i32) {
+    if e == libc::ENOENT {
+        io::write_all(1, b"there is no such file\n");
+    } else if e == libc::EACCES {
+        io::write_all(1, b"it may not be read\n");
+    } else if e == libc::EISDIR {
+        io::write_all(1, b"it is a directory\n");
+    } else if e == libc::ENOTDIR {
+        io::write_all(1, b"a part of its path is no directory\n");
+    } else if e == libc::ENAMETOOLONG {
+        io::write_all(1, b"its name is too long\n");
+    } else {
+        io::write_all(1, b"the system refuses it\n");
+    }
+}
+
+fn unread(q: Request, i: usize) {
+    let e = os::errno();
+    fault::file(q, i, b" can't be read: ");
+    reason(e);
+}
+
+fn odd(q: Request, i: usize, n: usize) {
+    fault::file(q, i, b" has ");
+    io::print_decimal(1, n as u64);
+    io::write_all(
+        1,
+        b" bytes: expected an even number of bytes, at most 524288\n",
+    );
+}
+
+fn fit(q: Request, i: usize, n: usize) -> Loaded {
+    if 524288 < n {
+        fault::file(
+            q,
+            i,
+            b" has more than 524288 bytes: expected an even number of bytes, at most 524288\n",
+        );
+        return Loaded::NotLoaded;
+    }
+    if n % 2 != 0 {
+        odd(q, i, n);
+        return Loaded::NotLoaded;
+    }
+    Loaded::Bytes(n)
+}
+
+fn checked(q: Request, i: usize, f: Loaded) -> Loaded {
+    match f {
+        Loaded::Bytes(n) => fit(q, i, n),
+        Loaded::NotLoaded => {
+            unread(q, i);
+            Loaded::NotLoaded
+        }
+    }
+}
+
+// The file that the second word names, into `rom`, which is longer than any ROM.
+pub fn load(q: Request, rom: &mut [u8]) -> Loaded {
+    let i = q.second;
+    if i == 0 {
+        fault::missing(q, b"ROM", b"a file");
+        return Loaded::NotLoaded;
+    }
+    let mut path = io::buffer();
+    let n = os::arg(i, &mut path);
+    let f = read(&path[..n], rom);
+    checked(q, i, f)
+}

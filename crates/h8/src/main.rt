@@ -1,0 +1,227 @@
+// h8: the tool a person runs. It reads arguments and a file, asks the library and prints its answers.
+mod ask;
+mod asked;
+mod fault;
+mod file;
+mod help;
+mod listed;
+mod longest;
+mod runs;
+mod show;
+mod ways;
+
+use ask::Request;
+use fault::Got;
+use file::Loaded;
+use longest::Gap;
+
+// The uses, by their names.
+enum Use {
+    Figure,
+    Way,
+    List,
+    Run,
+    Help,
+    NoUse,
+}
+
+fn used(q: Request) -> Use {
+    let i = q.first;
+    if i == 0 {
+        return Use::Help;
+    }
+    if ask::is(i, b"help") {
+        return Use::Help;
+    }
+    if ask::is(i, b"figure") {
+        return Use::Figure;
+    }
+    if ask::is(i, b"way") {
+        return Use::Way;
+    }
+    if ask::is(i, b"list") {
+        return Use::List;
+    }
+    if ask::is(i, b"run") {
+        Use::Run
+    } else {
+        Use::NoUse
+    }
+}
+
+fn either(a: usize, b: usize) -> usize {
+    if a != 0 { a } else { b }
+}
+
+// The first word that a use has no place for.
+fn surplus(q: Request, u: Use) -> usize {
+    match u {
+        Use::Figure => q.extra,
+        Use::Way => either(q.fourth, q.extra),
+        Use::List => q.extra,
+        Use::Run => either(q.fourth, q.extra),
+        Use::Help => either(q.second, q.extra),
+        Use::NoUse => 0,
+    }
+}
+
+// An option of `h8 run` beside another use.
+fn astray(q: Request, u: Use) -> usize {
+    let i = either(either(q.ram, q.budget), either(q.stop, q.er));
+    match u {
+        Use::Figure => i,
+        Use::Way => i,
+        Use::List => i,
+        Use::Run => 0,
+        Use::Help => i,
+        Use::NoUse => 0,
+    }
+}
+
+// Whether a word or an option is wrong; then a line has said so.
+fn faulty(q: Request, u: Use) -> bool {
+    if q.unknown != 0 {
+        fault::wrong(
+            q,
+            b"the option",
+            q.unknown,
+            b"--plain, --ram, --budget, --stop or --er",
+        );
+        return true;
+    }
+    let i = surplus(q, u);
+    if i != 0 {
+        fault::wrong(q, b"a word too many", i, b"what `h8 help` says");
+        return true;
+    }
+    let k = astray(q, u);
+    if k != 0 {
+        fault::wrong(q, b"the option", k, b"it with `h8 run` only");
+        return true;
+    }
+    false
+}
+
+fn small(v: u64) -> u32 {
+    (v % 4294967296) as u32
+}
+
+fn wide(v: u64) -> usize {
+    v as usize
+}
+
+fn figure(q: Request, rom: &[u8], table: &mut [u64]) {
+    let Got::Found(entry) = fault::number(
+        q,
+        b"ENTRY",
+        q.third,
+        4294967295,
+        b"an address, decimal or 0x",
+    ) else {
+        return;
+    };
+    if q.fourth == 0 {
+        longest::show_figure(rom, table, small(entry), Gap::NoGap, q.plain);
+        return;
+    }
+    let Got::Found(gap) = fault::number(
+        q,
+        b"GAP",
+        q.fourth,
+        999999999999999999,
+        b"a number of states, decimal or 0x",
+    ) else {
+        return;
+    };
+    longest::show_figure(rom, table, small(entry), Gap::States(gap), q.plain);
+}
+
+fn way(q: Request, rom: &[u8], table: &mut [u64]) {
+    let Got::Found(entry) = fault::number(
+        q,
+        b"ENTRY",
+        q.third,
+        4294967295,
+        b"an address, decimal or 0x",
+    ) else {
+        return;
+    };
+    ways::show_way(rom, table, small(entry), q.plain);
+}
+
+fn word_or(q: Request, name: &[u8], i: usize, otherwise: u64) -> Got {
+    if i == 0 {
+        return Got::Found(otherwise);
+    }
+    fault::number(q, name, i, 4294967295, b"an address, decimal or 0x")
+}
+
+fn list_from(q: Request, rom: &[u8], table: &mut [u64], from: usize, to: usize) {
+    if rom.len() == 0 {
+        fault::file(q, q.second, b" is empty: there is nothing to list\n");
+        return;
+    }
+    if (from % 2 != 0) | (rom.len() <= from) {
+        fault::wrong(q, b"FROM", q.third, b"an even address inside the ROM");
+        return;
+    }
+    if to < from {
+        fault::wrong(q, b"TO", q.fourth, b"an address not below FROM");
+        return;
+    }
+    listed::show_list(rom, table, from, to, q.plain);
+}
+
+fn list(q: Request, rom: &[u8], table: &mut [u64]) {
+    let Got::Found(from) = word_or(q, b"FROM", q.third, 0) else {
+        return;
+    };
+    let Got::Found(to) = word_or(q, b"TO", q.fourth, 4294967295) else {
+        return;
+    };
+    list_from(q, rom, table, wide(from), wide(to));
+}
+
+fn answer(q: Request, u: Use, rom: &[u8], table: &mut [u64], ram: &mut [u8]) {
+    match u {
+        Use::Figure => figure(q, rom, table),
+        Use::Way => way(q, rom, table),
+        Use::List => list(q, rom, table),
+        Use::Run => runs::show_run(q, rom, ram),
+        Use::Help => help::show_help(),
+        Use::NoUse => {}
+    }
+}
+
+fn with_file(q: Request, u: Use, rom: &mut [u8], table: &mut [u64], ram: &mut [u8]) {
+    let Loaded::Bytes(n) = file::load(q, rom) else {
+        return;
+    };
+    if n <= rom.len() {
+        answer(q, u, &rom[0..n], table, ram);
+    }
+}
+
+// Room for the longest ROM and two bytes more, by which a longer file is found; a table for it; the longest working memory.
+fn with_room(q: Request, u: Use) {
+    let mut rom = [0u8; 524290];
+    let mut table = [0u64; 524288];
+    let mut ram = [0u8; 65536];
+    with_file(q, u, &mut rom, &mut table, &mut ram);
+}
+
+fn main() {
+    let q = ask::requested();
+    let u = used(q);
+    if faulty(q, u) {
+        return;
+    }
+    match u {
+        Use::Figure => with_room(q, u),
+        Use::Way => with_room(q, u),
+        Use::List => with_room(q, u),
+        Use::Run => with_room(q, u),
+        Use::Help => help::show_help(),
+        Use::NoUse => fault::wrong(q, b"the use", q.first, b"figure, way, list, run or help"),
+    }
+}

@@ -1,0 +1,6 @@
+pub mod Parts
+pub mod Lines
+pub mod Numbers
+pub mod Names
+pub mod Operands
+pub mod Instructions

@@ -1,0 +1,26 @@
+use borrow.Author.Needs.{needs}
+use Rattle.wording.proofs.refusal.Statement.{statement}
+use Rattle.wording.proofs.refusal.Tie as tie
+
+pub refusal-spec : {M : Type 1} → statement M
+refusal-spec =
+    tie.close
+    (tie.spec (λ c. search needs) (λ c. search needs) (λ c κs. search needs) (λ c. search needs)
+    (λ c κs. search needs) (λ c. search needs) (λ c κs. search needs) (λ c. search needs) (λ c κs. search needs)
+    (λ c. search needs) (λ c κs. search needs) (λ c. search needs) (λ c κs. search needs) (λ c. search needs)
+    (λ c κs. search needs) (λ c. search needs) (λ c κs. search needs) (λ c. search needs) (λ c κs. search needs)
+    (λ c. search needs) (λ c κs. search needs) (λ c. search needs) (λ c. search needs) (λ c κs. search needs)
+    (λ c. search needs) (λ c. search needs) (λ c κs. search needs) (λ c. search needs) (λ c κs. search needs)
+    (λ c. rw (c .before .before .enum-told .given .1) (c .bytes .ensures))
+    (λ c. rw (c .before .before .f .given .1) (c .outside .ensures))
+    (λ c. rw (c .before .before .f2 .given .1) (c .unknown .ensures))
+    (λ c. rw (c .before .before .f3 .given .1) (c .cut .ensures))
+    (λ c. rw (c .before .before .f4 .given .1) (c .read .ensures))
+    (λ c. rw (c .before .before .f5 .given .1) (c .write .ensures))
+    (λ c. rw (c .before .before .f6 .given .1) (c .adjust .ensures))
+    (λ c. rw (c .before .before .f7 .given .1) (c .entry .ensures))
+    (λ c. rw (c .before .before .f8 .given .1) (c .follow .ensures))
+    (λ c. rw (c .before .before .f9 .given .1) (c .upward-at .ensures))
+    (λ c. rw (c .before .before .enum-told2 .given .1) (c .bytes2 .ensures))
+    (λ c. rw (c .before .before .enum-told3 .given .1) (c .bytes3 .ensures))
+    (λ c. rw (c .before .before .f10 .given .1) (c .short .ensures)))

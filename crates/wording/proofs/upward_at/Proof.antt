@@ -1,0 +1,9 @@
+use borrow.Author.Needs.{needs}
+use Rattle.wording.proofs.upward_at.Statement.{statement}
+use Rattle.wording.proofs.upward_at.Tie as tie
+
+pub upward-at-spec : {M : Type 1} → statement M
+upward-at-spec =
+    tie.close
+    (tie.spec (λ c κs. search needs) (λ c κs. search needs) (λ c κs. search needs)
+    (λ c. rw (← (c .before .before .flow-at .ensures), ← (c .before .back .ensures)) (c .upward .ensures)))
