@@ -1,0 +1,258 @@
+/* Prints crates/step_vectors/stdout: every form's step from three states, every condition, document 01's marked examples 1 to
+   9, its refusals 1 to 7 and what is easily missed, all by model.c and decoder.c. The states are made by the same formula as
+   in the program; the codes are built from the table of forms. With the word `codes` it prints those instead. */
+#include "model.h"
+#include <inttypes.h>
+#include <stdio.h>
+#include <string.h>
+
+static uint32_t mix(uint32_t n)
+{
+    uint32_t a = (n % 65537 * 40503 + 2) % 65537;
+    return (a ^ a / 64) % 65537 * 49297 / 128 % 65536;
+}
+static uint32_t number(uint32_t n) { return mix(2 * n) * 65536 + mix(2 * n + 1); }
+
+static void show_registers(const uint32_t regs[10])
+{
+    printf(" PC %06" PRIx32 " CCR %02" PRIx32, regs[H8_PC], regs[H8_CONDITION]);
+}
+
+static void show_ram(const struct board *b)
+{
+    fputs(" RAM ", stdout);
+    for (size_t i = 0; i < b->ram_n; i++)
+        printf("%02x", b->ram[i]);
+}
+
+/* One line: the state before; how it went, what has changed in ER0 to ER7, and the rest of the state after. */
+static struct outcome line(const struct board *b, uint32_t regs[10])
+{
+    uint32_t before[10];
+    memcpy(before, regs, sizeof before);
+    for (int i = 0; i < 8; i++)
+        printf(" %08" PRIx32, before[i]);
+    show_registers(before);
+    show_ram(b);
+    struct outcome o = model_step(b, regs);
+    if (o.number)
+        printf(": refused %" PRIu32 " at %06" PRIx32, o.number, o.place);
+    else
+        printf(": %" PRIu32 " states", o.states);
+    for (int i = 0; i < 8; i++)
+        if (regs[i] != before[i])
+            printf(" ER%d %08" PRIx32, i, regs[i]);
+    show_registers(regs);
+    show_ram(b);
+    putchar('\n');
+    return o;
+}
+
+static uint64_t joined(const uint8_t code[8])
+{
+    uint64_t x = 0;
+    for (int i = 0; i < 8; i++)
+        x = x << 8 | code[i];
+    return x;
+}
+
+static void apart(uint64_t x, uint8_t code[8])
+{
+    for (int i = 7; i >= 0; i--, x >>= 8)
+        code[i] = (uint8_t)x;
+}
+
+enum { ROM = 64, RAM = 16, BASE = 0xFFFFF0 };
+
+/* The board of the forms: made bytes, but for the code at PC. */
+static struct outcome on_board(uint32_t seed, uint64_t code, uint32_t regs[10])
+{
+    uint8_t rom[ROM], ram[RAM];
+    for (uint32_t i = 0; i < ROM; i++)
+        rom[i] = (uint8_t)(mix(30000 + seed * 16 + i) % 256);
+    for (uint32_t i = 0; i < RAM; i++)
+        ram[i] = (uint8_t)(mix(50000 + seed * 16 + i) % 256);
+    apart(code, rom + regs[H8_PC]);
+    struct board b = {BASE, rom, ROM, ram, RAM};
+    printf("%016" PRIx64, code);
+    return line(&b, regs);
+}
+
+/* ER5 to ER7 hold addresses: inside working memory; at its ends; or odd, with a top byte. */
+static uint32_t address(int state, uint32_t x)
+{
+    switch (state) {
+    case 0:  return BASE + 4 + x % 4 * 2;
+    case 1:  return x / 256 % 128 * 16777216 + BASE - 2 + x % 20;
+    default: return x / 256 % 128 * 16777216 + BASE + 4 + x % 8;
+    }
+}
+
+static const uint32_t edges[8] = {
+    0x00000000, 0x00000001, 0x7FFFFFFF, 0x80000000, 0xFFFFFFFF, 0x0FFF1000, 0x80007FFF, 0x7F80FF01,
+};
+
+static void make_state(uint32_t seed, int state, uint32_t regs[10])
+{
+    for (uint32_t i = 0; i < 8; i++) {
+        uint32_t x = number(seed * 16 + i);
+        regs[i] = i >= 5 ? address(state, x) : state == 1 ? edges[x % 8] : x;
+    }
+    regs[H8_PC] = number(seed * 16 + 8) % 29 * 2;
+    regs[H8_CONDITION] = number(seed * 16 + 9) % 256;
+}
+
+/* The operands of a form: addresses that reach memory, everything else made. */
+static uint32_t value_of(int form, uint32_t x)
+{
+    const struct form *f = &forms[form];
+    uint32_t up = (uint32_t)form % 12;
+    if (f->kind == H8_MOVE && f->form == H8_DISP)
+        return form % 2 ? 2 : 0xFFFE;
+    if (f->kind == H8_MOVE)
+        return f->form == H8_ABS16 && f->which == H8_LOAD ? up : BASE + up;
+    return (f->kind == H8_JMP || f->kind == H8_JSR) && f->form == H8_VECTOR ? 5 * up : x;
+}
+
+static uint64_t code_of(int form)
+{
+    const struct form *f = &forms[form];
+    uint32_t k = (uint32_t)form, other = f->kind == H8_MOVE ? 5 + k % 3 : number(3 * k);
+    uint8_t code[8];
+    build(form, other, value_of(form, number(3 * k + 1)), number(3 * k + 2), code);
+    return joined(code);
+}
+
+static int every_form(void)
+{
+    int missed = 0;
+    for (int form = 0; form < FORMS; form++) {
+        int done = 0;
+        for (int state = 0; state < 3; state++) {
+            uint32_t seed = (uint32_t)(3 * form + state), regs[10];
+            make_state(seed, state, regs);
+            struct outcome o = on_board(seed, code_of(form), regs);
+            done += o.number == 0 && o.form == form;
+        }
+        if (!done)
+            fprintf(stderr, "never done: %s\n", forms[form].name);
+        missed += !done;
+    }
+    return missed;
+}
+
+/* N, Z, V and C from 0 to F: T where the branch from 0 to 12 is taken; four states either way. */
+static void conditions(void)
+{
+    fputs("NZVC\n", stdout);
+    for (uint32_t c = 0; c < 16; c++) {
+        printf("Bcc %" PRIx32 ": ", c);
+        for (uint32_t flags = 0; flags < 16; flags++) {
+            uint8_t rom[2] = {(uint8_t)(0x40 + c), 0x10};
+            uint32_t regs[10] = {[H8_CONDITION] = flags};
+            struct board b = {BASE, rom, 2, NULL, 0};
+            struct outcome o = model_step(&b, regs);
+            putchar(o.states != 4 ? '!' : regs[H8_PC] == 0x12 ? 'T' : regs[H8_PC] == 2 ? '-' : '?');
+        }
+        putchar('\n');
+    }
+}
+
+/* Steps from states of which only these registers matter; read-only memory is the eight bytes of the code, working memory two. */
+struct start { const char *name; uint32_t base; uint64_t code; uint32_t er0, er1, er7, pc, condition; int steps; };
+
+static const struct start small[] = {
+    {"example 1", 0xFFEF10, 0x0889000000000000, 0x7F, 0x01, 0, 0, 0x00, 1},
+    {"example 2", 0xFFEF10, 0x0E89000000000000, 0x00, 0xFF, 0, 0, 0x01, 1},      /* Z clear before */
+    {"example 2", 0xFFEF10, 0x0E89000000000000, 0x00, 0xFF, 0, 0, 0x05, 1},      /* Z set before */
+    {"example 3", 0xFFEF10, 0x0F09000000000000, 0, 0x5A, 0, 0, 0x00, 1},
+    {"example 4", 0xFFEF10, 0x0F09000000000000, 0, 0x9A, 0, 0, 0x00, 1},
+    {"example 5", 0xFFEF10, 0x0F09000000000000, 0, 0x21, 0, 0, 0x21, 1},
+    {"example 6", 0xFFEF10, 0x0F09000000000000, 0, 0x04, 0, 0, 0x20, 1},
+    {"example 7", 0xFFEF10, 0x1C894D1000000000, 0x01, 0x80, 0, 0, 0x00, 2},      /* BLT is then taken */
+    {"example 8", 0xFFEF10, 0x6910000000000000, 0, 0x00FFEF11, 0, 0, 0x00, 1},
+    {"example 9", 0xFFEF10, 0x6D80000000000000, 0x00FFEF12, 0, 0, 0, 0x00, 1},
+    {"refusal 1", 0xFFEF11, 0, 0, 0, 0, 0, 0x00, 1},
+    {"refusal 1", 0x000006, 0, 0, 0, 0, 0, 0x00, 1},
+    {"refusal 1", 0x1000000, 0, 0, 0, 0, 0, 0x00, 1},
+    {"refusal 1", 0xFFEF10, 0, 0, 0, 0, 9, 0x00, 1},
+    {"refusal 1", 0xFFEF10, 0, 0, 0, 0, 0x1000000, 0x00, 1},
+    {"refusal 2", 0xFFEF10, 0, 0, 0, 0, 8, 0x00, 1},
+    {"refusal 2", 0xFFEF10, 0, 0, 0, 0, 0xFFEF10, 0x00, 1},                      /* working memory holds no code */
+    {"refusal 3", 0xFFEF10, 0x5471000000000000, 0, 0, 0, 0, 0x00, 1},
+    {"refusal 3", 0xFFEF10, 0x0000590100000000, 0, 0, 0, 2, 0x00, 1},
+    {"refusal 3", 0xFFEF10, 0x0000000000005801, 0, 0, 0, 6, 0x00, 1},            /* unknown, not cut short */
+    {"refusal 4", 0xFFEF10, 0x0000000000007900, 0, 0, 0, 6, 0x00, 1},
+    {"refusal 4", 0xFFEF10, 0x0000000001006B20, 0, 0, 0, 4, 0x00, 1},
+    {"refusal 5", 0xFFEF10, 0x6810000000000000, 0, 0x00FFEF12, 0, 0, 0x00, 1},
+    {"refusal 5", 0xFFEF10, 0x6D10000000000000, 0, 0x00FFEF0F, 0, 0, 0x00, 1},
+    {"refusal 5", 0xFFEF10, 0x0100691000000000, 0, 0x00FFEF11, 0, 0, 0x00, 1},   /* the second word */
+    {"refusal 5", 0xFFEF10, 0x5FF0000000000000, 0, 0, 0, 0, 0x00, 1},            /* before 6 */
+    {"refusal 5", 0xFFEF10, 0x5470000000000000, 0, 0, 0x00FFEF10, 0, 0x00, 1},
+    {"refusal 6", 0xFFEF10, 0x6890000000000000, 0, 0x00000004, 0, 0, 0x00, 1},
+    {"refusal 6", 0xFFEF10, 0x6C98000000000000, 0, 0x00FFEF10, 0, 0, 0x00, 1},
+    {"refusal 6", 0xFFEF10, 0x0100699000000000, 0x01020304, 0x00FFEF10, 0, 0, 0x00, 1}, /* the second word */
+    {"refusal 6", 0xFFEF10, 0x5500000000000000, 0, 0, 0x00FFEF14, 0, 0x00, 1},
+    {"refusal 6", 0xFFEF10, 0x5F04000000000000, 0, 0, 0, 0, 0x00, 1},
+    {"refusal 7", 0xFFEF10, 0x000000001F080000, 0x50, 0, 0, 4, 0x20, 1},
+};
+
+/* And on the board of the forms. */
+static const struct { uint32_t seed; uint64_t code; uint32_t er0, er1, er7; } missed[] = {
+    {600, 0x6C08000000000000, 0x00FFFFFF, 0, 0},            /* a load into the register's own part: the loaded part wins */
+    {601, 0x6C88000000000000, 0x01000000, 0, 0},            /* a store of it: the lowered value */
+    {602, 0x6D08000000000000, 0x00FFFFFE, 0, 0},
+    {603, 0x6D80000000000000, 0x00FFFFF3, 0, 0},            /* odd: only the access is even */
+    {604, 0x01006D0000000000, 0xABFFFFF5, 0, 0},
+    {605, 0x01006D8000000000, 0x01000000, 0, 0},
+    {606, 0x0100690000000000, 0x00FFFFFE, 0, 0},            /* a longword that goes on at 000000 */
+    {607, 0x0100698100000000, 0x00FFFFFE, 0x01020304, 0},
+    {608, 0x5D70000000000000, 0, 0, 0x00FFFFF8},            /* the target is ER7 before the push */
+    {609, 0x5E00400100000000, 0, 0, 0x12FFFFF9},
+    {610, 0x5500000000000000, 0, 0, 0x00000000},
+    {611, 0x5470000000000000, 0, 0, 0xFFFFFFFC},
+};
+
+static void written_out(void)
+{
+    for (const struct start *s = small; s < small + sizeof small / sizeof *small; s++) {
+        uint8_t rom[8], ram[2] = {0xA5, 0x5A};
+        uint32_t regs[10] = {s->er0, s->er1, [7] = s->er7, [H8_PC] = s->pc, [H8_CONDITION] = s->condition};
+        struct board b = {s->base, rom, 8, ram, 2};
+        apart(s->code, rom);
+        for (int i = 0; i < s->steps; i++) {
+            printf("%s: %016" PRIx64 " base %06" PRIx32, s->name, s->code, s->base);
+            line(&b, regs);
+        }
+    }
+    for (size_t i = 0; i < sizeof missed / sizeof *missed; i++) {
+        uint32_t regs[10] = {missed[i].er0, missed[i].er1, [7] = missed[i].er7};
+        on_board(missed[i].seed, missed[i].code, regs);
+    }
+}
+
+/* The push goes over the vector that was read before it. */
+static void vector_in_working_memory(void)
+{
+    uint8_t rom[8] = {0x5F, 0x08}, ram[4] = {0x12, 0x00, 0x40, 0x21};
+    uint32_t regs[10] = {[7] = 12};
+    struct board b = {8, rom, 8, ram, 4};
+    fputs("vector: 5f08000000000000 base 000008", stdout);
+    line(&b, regs);
+}
+
+int main(int argc, char **argv)
+{
+    decoder_start();
+    model_start();
+    if (argc > 1 && !strcmp(argv[1], "codes")) {
+        for (int form = 0; form < FORMS; form++)
+            printf("    0x%016" PRIX64 ", // %s\n", code_of(form), forms[form].name);
+        return 0;
+    }
+    int undone = every_form();
+    conditions();
+    written_out();
+    vector_in_working_memory();
+    return undone != 0;
+}

@@ -1,0 +1,16 @@
+use Prim.Native.Nat.{_≤_, _-_}
+use borrow.Author.Needs.{needs}
+use Rattle.step_vectors.proofs.every_form.Statement.{statement}
+use Rattle.step_vectors.proofs.every_form.Tie as tie
+
+abbrev Inv-loop : tie.InvT-loop
+Inv-loop seed₀ seed = seed ≤ 531
+
+abbrev μ-loop : tie.MeasureT-loop
+μ-loop seed₀ seed = 531 - seed
+
+pub every-form-spec : {M : Type 1} → statement M
+every-form-spec =
+    tie.close
+    (tie.spec Inv-loop μ-loop (λ c. search needs) (λ c. search needs) (λ c κs. search needs) (λ c κs. search needs)
+    (λ c κs. search needs) (λ c. search needs) (λ c. search needs) (λ c. search needs) (λ c. search needs))
