@@ -167,7 +167,7 @@ fn imm_states(w: Width) -> u32
     }
 }
 
-fn alu_states(op: Op, w: Width, source: Source) -> u32
+pub fn alu_states(op: Op, w: Width, source: Source) -> u32
     ensures { λ r. ⌜ r ≡ aluStates op w source ⌝ }
 {
     match source {
@@ -202,7 +202,7 @@ fn long_move_states(p: Place) -> u32
     }
 }
 
-fn move_states(w: Width, p: Place) -> u32
+pub fn move_states(w: Width, p: Place) -> u32
     ensures { λ r. ⌜ r ≡ moveStates w p ⌝ }
 {
     match w {
@@ -212,7 +212,7 @@ fn move_states(w: Width, p: Place) -> u32
     }
 }
 
-fn bcc_states(reach: Reach) -> u32
+pub fn bcc_states(reach: Reach) -> u32
     ensures { λ r. ⌜ r ≡ bccStates reach ⌝ }
 {
     match reach {
@@ -221,7 +221,7 @@ fn bcc_states(reach: Reach) -> u32
     }
 }
 
-fn jmp_states(target: Target) -> u32
+pub fn jmp_states(target: Target) -> u32
     ensures { λ r. ⌜ r ≡ jmpStates target ⌝ }
 {
     match target {
@@ -231,7 +231,7 @@ fn jmp_states(target: Target) -> u32
     }
 }
 
-fn bsr_states(reach: Reach) -> u32
+pub fn bsr_states(reach: Reach) -> u32
     ensures { λ r. ⌜ r ≡ bsrStates reach ⌝ }
 {
     match reach {
@@ -240,7 +240,7 @@ fn bsr_states(reach: Reach) -> u32
     }
 }
 
-fn jsr_states(target: Target) -> u32
+pub fn jsr_states(target: Target) -> u32
     ensures { λ r. ⌜ r ≡ jsrStates target ⌝ }
 {
     match target {
