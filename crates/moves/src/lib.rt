@@ -1,17 +1,22 @@
 // MOV with memory, and the stack. PC is none of theirs.
+use arith::Moved;
 use arith::Width;
 use codes::Place;
 use codes::Way;
 use memory::Board;
 use memory::Got;
 use memory::Put;
-use operate::Effect;
+use operate::Changes;
+use operate::Deed;
+use operate::Fresh;
 use registers::Registers;
 ghost use mathlib.Core.Path.{_≡_};
 ghost use Rattle.arith.specs.Widths.{bitsOf, movedOf};
 ghost use Rattle.arith.specs.Logic.{extsOf};
 ghost use Rattle.registers.specs.Condition.{withMoved};
 ghost use Rattle.registers.specs.Parts.{withCondition};
+ghost use Rattle.operate.specs.Results as Results;
+ghost use Rattle.operate.specs.Changes.{freshOf, changedOf, endedOf};
 ghost use Rattle.codes.specs.declared.Place.the-variants as Place;
 ghost use Rattle.moves.specs.Moves.{stepped, bytesOf, addressOf, stepOver, loadedOf, loadOf, storedOf, storeOf, pushOf, poppedOf};
 
@@ -57,78 +62,98 @@ fn address(p: Place, r: Registers) -> u32
 }
 
 // @ER+ and @-ER.
-fn step_over(way: Way, w: Width, p: Place, r: Registers) -> Registers
-    ensures { λ q. ⌜ q ≡ stepOver way w p r ⌝ }
+fn step_over(way: Way, w: Width, p: Place, r: Registers) -> Fresh
+    ensures { λ q. ⌜ freshOf r q ≡ stepOver way w p r ⌝ }
 {
     match p {
-        Place::At(_) => r,
+        Place::At(_) => Fresh::Nothing,
         Place::Step(e) => operate::carried(way, bytes(w), e, r),
-        Place::Disp(_, _) => r,
-        Place::Abs8(_) => r,
-        Place::Abs16(_) => r,
-        Place::Abs24(_) => r,
+        Place::Disp(_, _) => Fresh::Nothing,
+        Place::Abs8(_) => Fresh::Nothing,
+        Place::Abs16(_) => Fresh::Nothing,
+        Place::Abs24(_) => Fresh::Nothing,
     }
 }
 
-fn loaded(g: Got, w: Width, d: u8, r: Registers, raised: Registers) -> Effect
-    ensures { λ e. ⌜ e ≡ loadedOf g w d r raised ⌝ }
+// The part of digit d and the flags of a value that was moved there, after `first`.
+fn moved(first: Fresh, w: Width, d: u8, r: Registers, x: Moved) -> Changes
+    ensures { λ q. ⌜ changedOf r q ≡ Results.moved w d (freshOf r first) x ⌝ }
+{
+    let f = r.condition;
+    let g = f.with_moved(x);
+    Changes {
+        first: first,
+        second: Fresh::Part(w, d, x.value),
+        condition: g,
+    }
+}
+
+fn loaded(g: Got, w: Width, d: u8, r: Registers, raised: Fresh) -> Deed
+    ensures { λ e. ⌜ endedOf r e ≡ loadedOf g w d r (freshOf r raised) ⌝ }
 {
     match g {
-        Got::Value(x) => operate::did(operate::moved(w, d, raised, arith::mov(w, x))),
+        Got::Value(x) => operate::did(moved(raised, w, d, r, arith::mov(w, x))),
         Got::NotRead(f) => operate::refused(r, f),
     }
 }
 
 // MOV from memory.
-pub fn load(w: Width, p: Place, d: u8, r: Registers, b: Board, rom: &[u8], ram: &[u8]) -> Effect
-    ensures { λ e. ⌜ e ≡ loadOf w p d r b (now (rom .entry)) (now (ram .entry)) ⌝ }
+pub fn load(w: Width, p: Place, d: u8, r: Registers, b: Board, rom: &[u8], ram: &[u8]) -> Deed
+    ensures { λ e. ⌜ endedOf r e ≡ loadOf w p d r b (now (rom .entry)) (now (ram .entry)) ⌝ }
 {
     let a = address(p, r);
     let g = memory::read(w, b, rom, ram, a);
     loaded(g, w, d, r, step_over(Way::Up, w, p, r))
 }
 
-fn stored(p: Put, r: Registers, q: Registers) -> Effect
-    ensures { λ e. ⌜ e ≡ storedOf p r q ⌝ }
+fn stored(p: Put, r: Registers, c: Changes) -> Deed
+    ensures { λ e. ⌜ endedOf r e ≡ storedOf p r (changedOf r c) ⌝ }
 {
     match p {
-        Put::Stored => operate::did(q),
+        Put::Stored => operate::did(c),
         Put::NotStored(f) => operate::refused(r, f),
     }
 }
 
-// The flags of a value that was moved.
-fn flagged(w: Width, x: u32, q: Registers) -> Registers
-    ensures { λ e. ⌜ e ≡ withCondition q (withMoved (q .condition) (movedOf (bitsOf w) x)) ⌝ }
+// The flags of a value that was moved, after `first`.
+fn flagged(w: Width, x: u32, first: Fresh, r: Registers) -> Changes
+    ensures { λ e. ⌜ changedOf r e ≡ withCondition (freshOf r first) (withMoved (freshOf r first .condition) (movedOf (bitsOf w) x)) ⌝ }
 {
-    let f = q.condition;
-    registers::with_condition(q, f.with_moved(arith::mov(w, x)))
+    let f = r.condition;
+    let g = f.with_moved(arith::mov(w, x));
+    Changes {
+        first: first,
+        second: Fresh::Nothing,
+        condition: g,
+    }
 }
 
 // MOV to memory.
-pub fn store(w: Width, p: Place, s: u8, r: Registers, b: Board, ram: &mut [u8]) -> Effect
-    ensures { λ e. ⌜ stepped e (now (ram .exit)) ≡ storeOf w p s r b (now (ram .entry)) ⌝ }
+pub fn store(w: Width, p: Place, s: u8, r: Registers, b: Board, ram: &mut [u8]) -> Deed
+    ensures { λ e. ⌜ stepped (endedOf r e) (now (ram .exit)) ≡ storeOf w p s r b (now (ram .entry)) ⌝ }
 {
-    let q = step_over(Way::Down, w, p, r);
+    let first = step_over(Way::Down, w, p, r);
+    let q = operate::freshened(r, first);
     let x = registers::part(w, q, s);
     let a = address(p, q);
     let put = memory::write(w, b, ram, a, x);
-    stored(put, r, flagged(w, x, q))
+    stored(put, r, flagged(w, x, first, r))
 }
 
 // BSR and JSR.
-pub fn push(next: u32, r: Registers, b: Board, ram: &mut [u8]) -> Effect
-    ensures { λ e. ⌜ stepped e (now (ram .exit)) ≡ pushOf next r b (now (ram .entry)) ⌝ }
+pub fn push(next: u32, r: Registers, b: Board, ram: &mut [u8]) -> Deed
+    ensures { λ e. ⌜ stepped (endedOf r e) (now (ram .exit)) ≡ pushOf next r b (now (ram .entry)) ⌝ }
 {
-    let q = operate::carried(Way::Down, 4, 7, r);
+    let lowered = operate::carried(Way::Down, 4, 7, r);
+    let q = operate::freshened(r, lowered);
     let a = registers::part(Width::Long, q, 7);
     let put = memory::write(Width::Long, b, ram, a, next);
-    stored(put, r, q)
+    stored(put, r, operate::only(lowered, r))
 }
 
 // RTS.
-pub fn popped(r: Registers) -> Registers
-    ensures { λ q. ⌜ q ≡ poppedOf r ⌝ }
+pub fn popped(r: Registers) -> Changes
+    ensures { λ q. ⌜ changedOf r q ≡ poppedOf r ⌝ }
 {
-    operate::carried(Way::Up, 4, 7, r)
+    operate::only(operate::carried(Way::Up, 4, 7, r), r)
 }

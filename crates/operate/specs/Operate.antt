@@ -31,8 +31,7 @@ use Rattle.codes.specs.declared.Single.{Single}
 use Rattle.codes.specs.declared.Single.the-variants.{Not, Neg, Extu, Exts}
 use Rattle.codes.specs.declared.Change.{Change}
 use Rattle.codes.specs.declared.Change.the-variants.{Orc, Xorc, Andc, Ldc}
-use Rattle.operate.specs.Results.{summed, extended, counted, shifted, moved, compared, did, refused}
-use Rattle.operate.specs.declared.Effect.{Effect}
+use Rattle.operate.specs.Results.{summed, extended, counted, shifted, moved, compared, Effect, did, refused}
 
 -- STC: the condition byte goes to a byte register, and no flag changes
 unfoldable pub stcOf : ℕ → Registers → Registers

@@ -13,7 +13,6 @@ use Rattle.refusal.specs.declared.Refusal.{Refusal}
 use Rattle.registers.specs.declared.Registers.{Registers}
 use Rattle.registers.specs.Condition.{withSum, withExtended, withCounted, withShifted, withMoved}
 use Rattle.registers.specs.Parts.{withPart, withCondition}
-use Rattle.operate.specs.declared.Effect.{Effect}
 
 abbrev pub summed : Width → ℕ → Registers → Sum → Registers
 summed w d r x = withCondition (withPart w r d (x .value)) (withSum (r .condition) x)
@@ -34,7 +33,11 @@ moved w d r x = withCondition (withPart w r d (x .value)) (withMoved (r .conditi
 abbrev pub compared : Registers → Sum → Registers
 compared r x = withCondition r (withSum (r .condition) x)
 
--- registers, and how it went
+-- the registers after an instruction, and how it went
+pub record Effect : Type 0 where
+  pub regs : Registers
+  pub outcome : Outcome
+
 abbrev pub did : Registers → Effect
 did r = record { regs = r; outcome = Done }
 

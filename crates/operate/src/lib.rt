@@ -20,82 +20,162 @@ ghost use mathlib.Core.Path.{_≡_};
 ghost use Prim.Native.Nat.{_%_};
 ghost use Rattle.arith.specs.Widths.{bitsOf};
 ghost use Rattle.registers.specs.Condition.{conditionOf};
+ghost use Rattle.refusal.specs.declared.Outcome.the-variants.{Done};
 ghost use Rattle.operate.specs.Results as Results;
+ghost use Rattle.operate.specs.Changes.{onePart, flagsOnly, deed, freshEr, freshOf, changedOf, endedOf};
 ghost use Rattle.operate.specs.Operate as Operate;
 ghost use Rattle.operate.specs.Operate.{stcOf, ldcOf, ccrOf, sourceOf, operatedOf, aluOf, byOf, incDecOf, carriedOf, addsSubsOf, rowOf, addedOf, adjustedOf, decimalOf, turnedOf, shiftOf, unaryOf};
 
-// The registers after an instruction, and how it went. (An enum may not hold the registers, which hold an array.)
-pub struct Effect {
-    pub regs: Registers,
+// A part of a register that gets a new value, or none.
+pub enum Fresh {
+    Nothing,
+    Part(Width, u8, u32),
+}
+
+// What an instruction changes: a part, then another, then the condition byte. It goes from function to function in place of the
+// registers, so that these are written once and where they lie.
+pub struct Changes {
+    pub first: Fresh,
+    pub second: Fresh,
+    pub condition: Condition,
+}
+
+// What an instruction changes, and how it went. (An enum may not hold the registers, which hold an array.)
+pub struct Deed {
+    pub changes: Changes,
     pub outcome: Outcome,
 }
 
-pub fn did(r: Registers) -> Effect
-    ensures { λ e. ⌜ e ≡ Results.did r ⌝ }
+pub fn part(w: Width, d: u8, x: u32, f: Condition) -> Changes
+    ensures { λ q. ⌜ q ≡ onePart w d x f ⌝ }
 {
-    Effect {
-        regs: r,
+    Changes {
+        first: Fresh::Nothing,
+        second: Fresh::Part(w, d, x),
+        condition: f,
+    }
+}
+
+pub fn flags(f: Condition) -> Changes
+    ensures { λ q. ⌜ q ≡ flagsOnly f ⌝ }
+{
+    Changes {
+        first: Fresh::Nothing,
+        second: Fresh::Nothing,
+        condition: f,
+    }
+}
+
+// Writes a part where the registers lie.
+pub fn write(er: &mut [u32], x: Fresh)
+    ensures { λ _. ⌜ now (er .exit) ≡ freshEr (now (er .entry)) x ⌝ }
+{
+    match x {
+        Fresh::Nothing => {}
+        Fresh::Part(w, d, v) => {
+            let k = (d % 8) as usize;
+            if k < er.len() {
+                let old = er[k];
+                er[k] = registers::insert(w, d, old, v);
+            }
+        }
+    }
+}
+
+// The registers with a part written.
+pub fn freshened(r: Registers, x: Fresh) -> Registers
+    ensures { λ q. ⌜ q ≡ freshOf r x ⌝ }
+{
+    match x {
+        Fresh::Nothing => r,
+        Fresh::Part(w, d, v) => registers::with_part(w, r, d, v),
+    }
+}
+
+// The registers after all changes.
+pub fn applied(r: Registers, c: Changes) -> Registers
+    ensures { λ q. ⌜ q ≡ changedOf r c ⌝ }
+{
+    let first = c.first;
+    let second = c.second;
+    registers::with_condition(freshened(freshened(r, first), second), c.condition)
+}
+
+// No change at all.
+pub fn nothing(r: Registers) -> Changes
+    ensures { λ q. ⌜ changedOf r q ≡ r ⌝ }
+{
+    let f = r.condition;
+    flags(f)
+}
+
+pub fn did(c: Changes) -> Deed
+    ensures { λ e. ⌜ e ≡ deed c Done ⌝ }
+{
+    Deed {
+        changes: c,
         outcome: Outcome::Done,
     }
 }
 
-pub fn refused(r: Registers, f: Refusal) -> Effect
-    ensures { λ e. ⌜ e ≡ Results.refused r f ⌝ }
+pub fn refused(r: Registers, f: Refusal) -> Deed
+    ensures { λ e. ⌜ endedOf r e ≡ Results.refused r f ⌝ }
 {
-    Effect {
-        regs: r,
+    let c = nothing(r);
+    Deed {
+        changes: c,
         outcome: Outcome::Refused(f),
     }
 }
 
-fn summed(w: Width, d: u8, r: Registers, x: Sum) -> Registers
-    ensures { λ q. ⌜ q ≡ Results.summed w d r x ⌝ }
+fn summed(w: Width, d: u8, r: Registers, x: Sum) -> Changes
+    ensures { λ q. ⌜ changedOf r q ≡ Results.summed w d r x ⌝ }
 {
     let f = r.condition;
-    registers::with_condition(registers::with_part(w, r, d, x.value), f.with_sum(x))
+    part(w, d, x.value, f.with_sum(x))
 }
 
-fn extended(w: Width, d: u8, r: Registers, x: Sum) -> Registers
-    ensures { λ q. ⌜ q ≡ Results.extended w d r x ⌝ }
+fn extended(w: Width, d: u8, r: Registers, x: Sum) -> Changes
+    ensures { λ q. ⌜ changedOf r q ≡ Results.extended w d r x ⌝ }
 {
     let f = r.condition;
-    registers::with_condition(registers::with_part(w, r, d, x.value), f.with_extended(x))
+    part(w, d, x.value, f.with_extended(x))
 }
 
-fn counted(w: Width, d: u8, r: Registers, x: Counted) -> Registers
-    ensures { λ q. ⌜ q ≡ Results.counted w d r x ⌝ }
+fn counted(w: Width, d: u8, r: Registers, x: Counted) -> Changes
+    ensures { λ q. ⌜ changedOf r q ≡ Results.counted w d r x ⌝ }
 {
     let f = r.condition;
-    registers::with_condition(registers::with_part(w, r, d, x.value), f.with_counted(x))
+    part(w, d, x.value, f.with_counted(x))
 }
 
-fn shifted(w: Width, d: u8, r: Registers, x: Shifted) -> Registers
-    ensures { λ q. ⌜ q ≡ Results.shifted w d r x ⌝ }
+fn shifted(w: Width, d: u8, r: Registers, x: Shifted) -> Changes
+    ensures { λ q. ⌜ changedOf r q ≡ Results.shifted w d r x ⌝ }
 {
     let f = r.condition;
-    registers::with_condition(registers::with_part(w, r, d, x.value), f.with_shifted(x))
+    part(w, d, x.value, f.with_shifted(x))
 }
 
-pub fn moved(w: Width, d: u8, r: Registers, x: Moved) -> Registers
-    ensures { λ q. ⌜ q ≡ Results.moved w d r x ⌝ }
+fn moved(w: Width, d: u8, r: Registers, x: Moved) -> Changes
+    ensures { λ q. ⌜ changedOf r q ≡ Results.moved w d r x ⌝ }
 {
     let f = r.condition;
-    registers::with_condition(registers::with_part(w, r, d, x.value), f.with_moved(x))
+    part(w, d, x.value, f.with_moved(x))
 }
 
-fn compared(r: Registers, x: Sum) -> Registers
-    ensures { λ q. ⌜ q ≡ Results.compared r x ⌝ }
+fn compared(r: Registers, x: Sum) -> Changes
+    ensures { λ q. ⌜ changedOf r q ≡ Results.compared r x ⌝ }
 {
     let f = r.condition;
-    registers::with_condition(r, f.with_sum(x))
+    flags(f.with_sum(x))
 }
 
-pub fn stc(d: u8, r: Registers) -> Registers
-    ensures { λ q. ⌜ q ≡ stcOf d r ⌝ }
+pub fn stc(d: u8, r: Registers) -> Changes
+    ensures { λ q. ⌜ changedOf r q ≡ stcOf d r ⌝ }
 {
     let f = r.condition;
     let b = f.byte();
-    registers::with_part(Width::Byte, r, d, b as u32)
+    part(Width::Byte, d, b as u32, f)
 }
 
 // The condition byte whose bits are the low ones of a number.
@@ -105,10 +185,10 @@ fn condition(x: u32) -> Condition
     Condition::from_byte((x % 256) as u8)
 }
 
-pub fn ldc(s: u8, r: Registers) -> Registers
-    ensures { λ q. ⌜ q ≡ ldcOf s r ⌝ }
+pub fn ldc(s: u8, r: Registers) -> Changes
+    ensures { λ q. ⌜ changedOf r q ≡ ldcOf s r ⌝ }
 {
-    registers::with_condition(r, condition(registers::part(Width::Byte, r, s)))
+    flags(condition(registers::part(Width::Byte, r, s)))
 }
 
 fn changed(change: Change, b: u32, v: u32) -> u32
@@ -122,12 +202,12 @@ fn changed(change: Change, b: u32, v: u32) -> u32
     }
 }
 
-pub fn ccr(change: Change, v: u8, r: Registers) -> Registers
-    ensures { λ q. ⌜ q ≡ ccrOf change v r ⌝ }
+pub fn ccr(change: Change, v: u8, r: Registers) -> Changes
+    ensures { λ q. ⌜ changedOf r q ≡ ccrOf change v r ⌝ }
 {
     let f = r.condition;
     let b = f.byte();
-    registers::with_condition(r, condition(changed(change, b as u32, v as u32)))
+    flags(condition(changed(change, b as u32, v as u32)))
 }
 
 fn source(w: Width, r: Registers, s: Source) -> u32
@@ -140,8 +220,8 @@ fn source(w: Width, r: Registers, s: Source) -> u32
 }
 
 // a is the destination before, s the source.
-fn operated(op: Op, w: Width, a: u32, s: u32, d: u8, r: Registers) -> Registers
-    ensures { λ q. ⌜ q ≡ operatedOf op w a s d r ⌝ }
+fn operated(op: Op, w: Width, a: u32, s: u32, d: u8, r: Registers) -> Changes
+    ensures { λ q. ⌜ changedOf r q ≡ operatedOf op w a s d r ⌝ }
 {
     let f = r.condition;
     match op {
@@ -158,8 +238,8 @@ fn operated(op: Op, w: Width, a: u32, s: u32, d: u8, r: Registers) -> Registers
 }
 
 // ADD to AND.
-pub fn alu(op: Op, w: Width, s: Source, d: u8, r: Registers) -> Registers
-    ensures { λ q. ⌜ q ≡ aluOf op w s d r ⌝ }
+pub fn alu(op: Op, w: Width, s: Source, d: u8, r: Registers) -> Changes
+    ensures { λ q. ⌜ changedOf r q ≡ aluOf op w s d r ⌝ }
 {
     operated(op, w, registers::part(w, r, d), source(w, r, s), d, r)
 }
@@ -175,8 +255,8 @@ fn amount(by: By) -> u32
 }
 
 // INC and DEC.
-pub fn inc_dec(way: Way, w: Width, by: By, d: u8, r: Registers) -> Registers
-    ensures { λ q. ⌜ q ≡ incDecOf way w by d r ⌝ }
+pub fn inc_dec(way: Way, w: Width, by: By, d: u8, r: Registers) -> Changes
+    ensures { λ q. ⌜ changedOf r q ≡ incDecOf way w by d r ⌝ }
 {
     let x = registers::part(w, r, d);
     let n = amount(by);
@@ -187,31 +267,41 @@ pub fn inc_dec(way: Way, w: Width, by: By, d: u8, r: Registers) -> Registers
 }
 
 // A register of 32 bits, higher or lower by n.
-pub fn carried(way: Way, n: u32, e: u8, r: Registers) -> Registers
-    ensures { λ q. ⌜ q ≡ carriedOf way n e r ⌝ }
+pub fn carried(way: Way, n: u32, e: u8, r: Registers) -> Fresh
+    ensures { λ q. ⌜ freshOf r q ≡ carriedOf way n e r ⌝ }
 {
     let x = registers::part(Width::Long, r, e);
     match way {
-        Way::Up => registers::with_part(
+        Way::Up => Fresh::Part(
             Width::Long,
-            r,
             e,
             arith::sums::add(Width::Long, x, n, false).value,
         ),
-        Way::Down => registers::with_part(
+        Way::Down => Fresh::Part(
             Width::Long,
-            r,
             e,
             arith::sums::sub(Width::Long, x, n, false).value,
         ),
     }
 }
 
-// ADDS and SUBS.
-pub fn adds_subs(way: Way, by: By, e: u8, r: Registers) -> Registers
-    ensures { λ q. ⌜ q ≡ addsSubsOf way by e r ⌝ }
+// One part, and no flags.
+pub fn only(x: Fresh, r: Registers) -> Changes
+    ensures { λ q. ⌜ changedOf r q ≡ freshOf r x ⌝ }
 {
-    carried(way, amount(by), e, r)
+    let f = r.condition;
+    Changes {
+        first: Fresh::Nothing,
+        second: x,
+        condition: f,
+    }
+}
+
+// ADDS and SUBS.
+pub fn adds_subs(way: Way, by: By, e: u8, r: Registers) -> Changes
+    ensures { λ q. ⌜ changedOf r q ≡ addsSubsOf way by e r ⌝ }
+{
+    only(carried(way, amount(by), e, r), r)
 }
 
 fn row(way: Way, r: Registers, x: u32) -> Adjust
@@ -225,19 +315,16 @@ fn row(way: Way, r: Registers, x: u32) -> Adjust
 }
 
 // The row's value was found.
-fn added(v: u8, c: bool, x: u32, d: u8, r: Registers) -> Registers
-    ensures { λ q. ⌜ q ≡ addedOf v c x d r ⌝ }
+fn added(v: u8, c: bool, x: u32, d: u8, r: Registers) -> Changes
+    ensures { λ q. ⌜ changedOf r q ≡ addedOf v c x d r ⌝ }
 {
     let y = arith::mov(Width::Byte, x % 256 + v as u32);
     let f = r.condition;
-    registers::with_condition(
-        registers::with_part(Width::Byte, r, d, y.value),
-        f.with_adjusted(y, c),
-    )
+    part(Width::Byte, d, y.value, f.with_adjusted(y, c))
 }
 
-fn adjusted(a: Adjust, x: u32, d: u8, r: Registers) -> Effect
-    ensures { λ e. ⌜ e ≡ adjustedOf a x d r ⌝ }
+fn adjusted(a: Adjust, x: u32, d: u8, r: Registers) -> Deed
+    ensures { λ e. ⌜ endedOf r e ≡ adjustedOf a x d r ⌝ }
 {
     match a {
         Adjust::Adding(v, c) => did(added(v, c, x, d, r)),
@@ -246,8 +333,8 @@ fn adjusted(a: Adjust, x: u32, d: u8, r: Registers) -> Effect
 }
 
 // DAA and DAS.
-pub fn decimal(way: Way, d: u8, r: Registers) -> Effect
-    ensures { λ e. ⌜ e ≡ decimalOf way d r ⌝ }
+pub fn decimal(way: Way, d: u8, r: Registers) -> Deed
+    ensures { λ e. ⌜ endedOf r e ≡ decimalOf way d r ⌝ }
 {
     let x = registers::part(Width::Byte, r, d);
     adjusted(row(way, r, x), x, d, r)
@@ -270,16 +357,16 @@ fn turned(turn: Turn, w: Width, x: u32, c: bool) -> Shifted
 }
 
 // Shifts and rotates.
-pub fn shift(turn: Turn, w: Width, d: u8, r: Registers) -> Registers
-    ensures { λ q. ⌜ q ≡ shiftOf turn w d r ⌝ }
+pub fn shift(turn: Turn, w: Width, d: u8, r: Registers) -> Changes
+    ensures { λ q. ⌜ changedOf r q ≡ shiftOf turn w d r ⌝ }
 {
     let f = r.condition;
     shifted(w, d, r, turned(turn, w, registers::part(w, r, d), f.c))
 }
 
 // NOT, NEG, EXTU, EXTS.
-pub fn unary(single: Single, w: Width, d: u8, r: Registers) -> Registers
-    ensures { λ q. ⌜ q ≡ unaryOf single w d r ⌝ }
+pub fn unary(single: Single, w: Width, d: u8, r: Registers) -> Changes
+    ensures { λ q. ⌜ changedOf r q ≡ unaryOf single w d r ⌝ }
 {
     let x = registers::part(w, r, d);
     match single {

@@ -187,7 +187,7 @@ pub fn part(w: Width, r: Registers, d: u8) -> u32
 }
 
 // A register's value where a part is replaced.
-fn insert(w: Width, d: u8, old: u32, x: u32) -> u32
+pub fn insert(w: Width, d: u8, old: u32, x: u32) -> u32
     ensures { λ q. ⌜ q ≡ insertOf w d old x ⌝ }
 {
     match w {

@@ -1,3 +1,4 @@
 pub mod Follow
 pub mod Step
+pub mod MirrorTurn
 pub mod Processor

@@ -2,13 +2,14 @@
 use arith::Width;
 use codes::Decoded;
 use codes::Dir;
-use codes::Goes;
 use codes::Instruction;
 use codes::Place;
+use codes::Reach;
 use codes::Target;
 use memory::Board;
 use memory::Got;
-use operate::Effect;
+use operate::Changes;
+use operate::Deed;
 use refusal::Outcome;
 use refusal::Refusal;
 use registers::Condition;
@@ -16,15 +17,27 @@ use registers::Registers;
 ghost use mathlib.Core.Path.{_≡_};
 ghost use mathlib.Core.Bool.{cond};
 ghost use lib.ListN.{length};
-ghost use Rattle.moves.specs.Moves.{stepped};
-ghost use Rattle.memory.specs.declared.Got.the-variants.{Value};
 ghost use Rattle.refusal.specs.declared.Refusal.the-variants.{BadBoard};
-ghost use Rattle.step.specs.Follow.{evenCondition, holdsOf, aimOf, followOf};
-ghost use Rattle.step.specs.Step.{transferOf, effectOf, after, answered, stays, finishOf, carryOf, obeyOf, actOf, fetchOf, goodPc, stepOf};
+ghost use Rattle.refusal.specs.declared.Outcome.the-variants.{Done};
+ghost use Rattle.codes.specs.States.{bccStates, jmpStates, jsrStates, moveStates};
+ghost use Rattle.flow.specs.Targets.{targetOf};
+ghost use Rattle.operate.specs.Changes.{endedOf};
+ghost use Rattle.moves.specs.Moves.{stepped};
+ghost use Rattle.step.specs.Follow.{evenCondition, holdsOf, aimOf};
+ghost use Rattle.step.specs.Step.{transferOf, after, answered, stays, finishOf, obeyOf, actOf, fetchOf, goodPc, stepOf};
+ghost use Rattle.step.specs.MirrorTurn.{turn, toldOf, jumpedOf, returnedOf, calledOf, movedOf};
 
 // The registers after a step, its states, and whether it was refused.
 pub struct StepAnswer {
     pub regs: Registers,
+    pub states: u32,
+    pub outcome: Outcome,
+}
+
+// What a step comes to, before the registers are written: what changes, where PC goes, the states, and how it went.
+pub struct Turn {
+    pub changes: Changes,
+    pub pc: u32,
     pub states: u32,
     pub outcome: Outcome,
 }
@@ -67,21 +80,80 @@ fn aim(t: Target, r: Registers, b: Board, rom: &[u8], ram: &[u8]) -> Got
     }
 }
 
-// Which address PC is set to; @@aa:8 and RTS read it.
-fn follow(g: Goes, next: u32, r: Registers, b: Board, rom: &[u8], ram: &[u8]) -> Got
-    ensures { λ p. ⌜ p ≡ followOf r b (now (rom .entry)) (now (ram .entry)) g next ⌝ }
+fn done(c: Changes, p: u32, n: u32) -> Turn
+    ensures { λ t. ⌜ t ≡ turn c p n Done ⌝ }
+{
+    Turn {
+        changes: c,
+        pc: p,
+        states: n,
+        outcome: Outcome::Done,
+    }
+}
+
+fn ended(e: Deed, p: u32, n: u32) -> Turn
+    ensures { λ t. ⌜ t ≡ turn (e .changes) p n (e .outcome) ⌝ }
+{
+    let c = e.changes;
+    let o = e.outcome;
+    Turn {
+        changes: c,
+        pc: p,
+        states: n,
+        outcome: o,
+    }
+}
+
+// A refused step changes nothing and adds no states.
+fn refuse(r: Registers, f: Refusal) -> Turn
+    ensures { λ t. ⌜ toldOf r t ≡ stays r f ⌝ }
+{
+    let c = operate::nothing(r);
+    Turn {
+        changes: c,
+        pc: 0,
+        states: 0,
+        outcome: Outcome::Refused(f),
+    }
+}
+
+// Bcc.
+fn branch(c: u8, reach: Reach, next: u32, r: Registers) -> Turn
+    ensures { λ t. ⌜ toldOf r t ≡ finishOf Done r r (cond (holdsOf c (r .condition)) (targetOf next reach) next) (bccStates reach) ⌝ }
+{
+    let to = either(
+        holds(c, r.condition),
+        flow::target(next, reach),
+        next,
+    );
+    done(operate::nothing(r), to, codes::bcc_states(reach))
+}
+
+// PC is set to what was aimed at. The target is taken before anything is pushed, so 5 is looked for before 6.
+fn jumped(g: Got, r: Registers, n: u32) -> Turn
+    ensures { λ t. ⌜ toldOf r t ≡ jumpedOf g r n ⌝ }
 {
     match g {
-        Goes::Onward => Got::Value(next),
-        Goes::Branches(c, reach) => Got::Value(either(
-            holds(c, r.condition),
-            flow::target(next, reach),
-            next,
-        )),
-        Goes::Jumps(t) => aim(t, r, b, rom, ram),
-        Goes::CallsNear(reach) => Got::Value(flow::target(next, reach)),
-        Goes::Calls(t) => aim(t, r, b, rom, ram),
-        Goes::Returns => memory::read(Width::Long, b, rom, ram, registers::part(Width::Long, r, 7)),
+        Got::Value(p) => done(operate::nothing(r), p, n),
+        Got::NotRead(f) => refuse(r, f),
+    }
+}
+
+fn called(g: Got, next: u32, r: Registers, b: Board, ram: &mut [u8], n: u32) -> Turn
+    ensures { λ t. ⌜ after (toldOf r t) (now (ram .exit)) ≡ calledOf g next r b (now (ram .entry)) n ⌝ }
+{
+    match g {
+        Got::Value(p) => ended(moves::push(next, r, b, ram), p, n),
+        Got::NotRead(f) => refuse(r, f),
+    }
+}
+
+fn returned(g: Got, r: Registers) -> Turn
+    ensures { λ t. ⌜ toldOf r t ≡ returnedOf g r ⌝ }
+{
+    match g {
+        Got::Value(p) => done(moves::popped(r), p, 10),
+        Got::NotRead(f) => refuse(r, f),
     }
 }
 
@@ -95,8 +167,8 @@ fn transfer(
     b: Board,
     rom: &[u8],
     ram: &mut [u8],
-) -> Effect
-    ensures { λ e. ⌜ stepped e (now (ram .exit)) ≡ transferOf next r b (now (rom .entry)) (now (ram .entry)) dir w p d ⌝ }
+) -> Deed
+    ensures { λ e. ⌜ stepped (endedOf r e) (now (ram .exit)) ≡ transferOf next r b (now (rom .entry)) (now (ram .entry)) dir w p d ⌝ }
 {
     match dir {
         Dir::Load => moves::load(w, p, d, r, b, rom, &ram[..]),
@@ -104,101 +176,64 @@ fn transfer(
     }
 }
 
-// What an instruction does to registers and memory; PC is none of it.
-fn effect(i: Instruction, next: u32, r: Registers, b: Board, rom: &[u8], ram: &mut [u8]) -> Effect
-    ensures { λ e. ⌜ stepped e (now (ram .exit)) ≡ effectOf next r b (now (rom .entry)) (now (ram .entry)) i ⌝ }
-{
-    match i {
-        Instruction::Nop => operate::did(r),
-        Instruction::Stc(d) => operate::did(operate::stc(d, r)),
-        Instruction::LdcReg(s) => operate::did(operate::ldc(s, r)),
-        Instruction::Ccr(change, v) => operate::did(operate::ccr(change, v, r)),
-        Instruction::Alu(op, w, s, d) => operate::did(operate::alu(op, w, s, d, r)),
-        Instruction::IncDec(way, w, by, d) => operate::did(operate::inc_dec(way, w, by, d, r)),
-        Instruction::AddsSubs(way, by, e) => operate::did(operate::adds_subs(way, by, e, r)),
-        Instruction::Decimal(way, d) => operate::decimal(way, d, r),
-        Instruction::Shift(turn, w, d) => operate::did(operate::shift(turn, w, d, r)),
-        Instruction::Unary(single, w, d) => operate::did(operate::unary(single, w, d, r)),
-        Instruction::Move(dir, w, p, d) => transfer(dir, w, p, d, next, r, b, rom, ram),
-        Instruction::Bcc(_, _) => operate::did(r),
-        Instruction::Jmp(_) => operate::did(r),
-        Instruction::Bsr(_) => moves::push(next, r, b, ram),
-        Instruction::Jsr(_) => moves::push(next, r, b, ram),
-        Instruction::Rts => operate::did(moves::popped(r)),
-    }
-}
-
-fn answer(r: Registers, n: u32, o: Outcome) -> StepAnswer
-    ensures { λ q. ⌜ q ≡ answered r n o ⌝ }
-{
-    StepAnswer {
-        regs: r,
-        states: n,
-        outcome: o,
-    }
-}
-
-// A refused step changes nothing and adds no states.
-fn refuse(r: Registers, f: Refusal) -> StepAnswer
-    ensures { λ q. ⌜ q ≡ stays r f ⌝ }
-{
-    answer(r, 0, Outcome::Refused(f))
-}
-
-fn finish(o: Outcome, r: Registers, q: Registers, p: u32, n: u32) -> StepAnswer
-    ensures { λ s. ⌜ s ≡ finishOf o r q p n ⌝ }
-{
-    match o {
-        Outcome::Done => answer(registers::with_pc(q, p), n, Outcome::Done),
-        Outcome::Refused(f) => refuse(r, f),
-    }
-}
-
-// The instruction, once it is known where PC goes.
-fn complete(
-    p: u32,
-    i: Instruction,
+// MOV with memory.
+fn moved(
+    dir: Dir,
+    w: Width,
+    p: Place,
+    d: u8,
     next: u32,
     r: Registers,
     b: Board,
     rom: &[u8],
     ram: &mut [u8],
-) -> StepAnswer
-    ensures { λ q. ⌜ after q (now (ram .exit)) ≡ carryOf (Value p) i next r b (now (rom .entry)) (now (ram .entry)) ⌝ }
+) -> Turn
+    ensures { λ t. ⌜ after (toldOf r t) (now (ram .exit)) ≡ movedOf (transferOf next r b (now (rom .entry)) (now (ram .entry)) dir w p d) next r (moveStates w p) ⌝ }
 {
-    let e = effect(i, next, r, b, rom, ram);
-    let o = e.outcome;
-    let q = e.regs;
-    finish(o, r, q, p, codes::states(i))
+    let e = transfer(dir, w, p, d, next, r, b, rom, ram);
+    ended(e, next, codes::move_states(w, p))
 }
 
-fn carry(
-    g: Got,
-    i: Instruction,
-    next: u32,
-    r: Registers,
-    b: Board,
-    rom: &[u8],
-    ram: &mut [u8],
-) -> StepAnswer
-    ensures { λ q. ⌜ after q (now (ram .exit)) ≡ carryOf g i next r b (now (rom .entry)) (now (ram .entry)) ⌝ }
-{
-    match g {
-        Got::Value(p) => complete(p, i, next, r, b, rom, ram),
-        Got::NotRead(f) => refuse(r, f),
-    }
-}
-
-fn obey(i: Instruction, n: usize, r: Registers, b: Board, rom: &[u8], ram: &mut [u8]) -> StepAnswer
-    ensures { λ q. ⌜ after q (now (ram .exit)) ≡ obeyOf i n r b (now (rom .entry)) (now (ram .entry)) ⌝ }
+// An instruction of n bytes: what it changes, where PC goes, and its states.
+fn obey(i: Instruction, n: usize, r: Registers, b: Board, rom: &[u8], ram: &mut [u8]) -> Turn
+    ensures { λ t. ⌜ after (toldOf r t) (now (ram .exit)) ≡ obeyOf i n r b (now (rom .entry)) (now (ram .entry)) ⌝ }
 {
     let next = flow::next(r.pc, n);
-    let to = follow(codes::goes_to(i), next, r, b, rom, &ram[..]);
-    carry(to, i, next, r, b, rom, ram)
+    match i {
+        Instruction::Nop => done(operate::nothing(r), next, 2),
+        Instruction::Stc(d) => done(operate::stc(d, r), next, 2),
+        Instruction::LdcReg(s) => done(operate::ldc(s, r), next, 2),
+        Instruction::Ccr(change, v) => done(operate::ccr(change, v, r), next, 2),
+        Instruction::Alu(op, w, s, d) => done(
+            operate::alu(op, w, s, d, r),
+            next,
+            codes::alu_states(op, w, s),
+        ),
+        Instruction::IncDec(way, w, by, d) => done(operate::inc_dec(way, w, by, d, r), next, 2),
+        Instruction::AddsSubs(way, by, e) => done(operate::adds_subs(way, by, e, r), next, 2),
+        Instruction::Decimal(way, d) => ended(operate::decimal(way, d, r), next, 2),
+        Instruction::Shift(turn, w, d) => done(operate::shift(turn, w, d, r), next, 2),
+        Instruction::Unary(single, w, d) => done(operate::unary(single, w, d, r), next, 2),
+        Instruction::Move(dir, w, p, d) => moved(dir, w, p, d, next, r, b, rom, ram),
+        Instruction::Bcc(c, reach) => branch(c, reach, next, r),
+        Instruction::Jmp(t) => jumped(aim(t, r, b, rom, &ram[..]), r, codes::jmp_states(t)),
+        Instruction::Bsr(reach) => {
+            let to = Got::Value(flow::target(next, reach));
+            called(to, next, r, b, ram, codes::bsr_states(reach))
+        }
+        Instruction::Jsr(t) => {
+            let to = aim(t, r, b, rom, &ram[..]);
+            called(to, next, r, b, ram, codes::jsr_states(t))
+        }
+        Instruction::Rts => {
+            let at = registers::part(Width::Long, r, 7);
+            returned(memory::read(Width::Long, b, rom, &ram[..], at), r)
+        }
+    }
 }
 
-fn act(d: Decoded, r: Registers, b: Board, rom: &[u8], ram: &mut [u8]) -> StepAnswer
-    ensures { λ q. ⌜ after q (now (ram .exit)) ≡ actOf d r b (now (rom .entry)) (now (ram .entry)) ⌝ }
+fn act(d: Decoded, r: Registers, b: Board, rom: &[u8], ram: &mut [u8]) -> Turn
+    ensures { λ t. ⌜ after (toldOf r t) (now (ram .exit)) ≡ actOf d r b (now (rom .entry)) (now (ram .entry)) ⌝ }
 {
     match d {
         Decoded::Code(i, n) => obey(i, n, r, b, rom, ram),
@@ -207,8 +242,8 @@ fn act(d: Decoded, r: Registers, b: Board, rom: &[u8], ram: &mut [u8]) -> StepAn
 }
 
 // A step on a board that was found right, from a PC that can be. (`run` looks at the board once.)
-pub fn fetch(r: Registers, b: Board, rom: &[u8], ram: &mut [u8]) -> StepAnswer
-    ensures { λ q. ⌜ after q (now (ram .exit)) ≡ fetchOf r b (now (rom .entry)) (now (ram .entry)) ⌝ }
+pub fn fetch(r: Registers, b: Board, rom: &[u8], ram: &mut [u8]) -> Turn
+    ensures { λ t. ⌜ after (toldOf r t) (now (ram .exit)) ≡ fetchOf r b (now (rom .entry)) (now (ram .entry)) ⌝ }
 {
     let at = r.pc as usize;
     if at < rom.len() {
@@ -224,13 +259,39 @@ pub fn good_pc(pc: u32) -> bool
     (pc % 2 == 0) & (pc < 16777216)
 }
 
+fn answer(r: Registers, n: u32, o: Outcome) -> StepAnswer
+    ensures { λ q. ⌜ q ≡ answered r n o ⌝ }
+{
+    StepAnswer {
+        regs: r,
+        states: n,
+        outcome: o,
+    }
+}
+
+// The registers are written.
+fn told(r: Registers, t: Turn) -> StepAnswer
+    ensures { λ q. ⌜ q ≡ toldOf r t ⌝ }
+{
+    let c = t.changes;
+    let o = t.outcome;
+    match o {
+        Outcome::Done => answer(
+            registers::with_pc(operate::applied(r, c), t.pc),
+            t.states,
+            Outcome::Done,
+        ),
+        Outcome::Refused(f) => answer(r, 0, Outcome::Refused(f)),
+    }
+}
+
 fn checked(good: bool, r: Registers, b: Board, rom: &[u8], ram: &mut [u8]) -> StepAnswer
     ensures { λ q. ⌜ after q (now (ram .exit)) ≡ cond good (fetchOf r b (now (rom .entry)) (now (ram .entry))) (after (stays r BadBoard) (now (ram .entry))) ⌝ }
 {
     if good {
-        fetch(r, b, rom, ram)
+        told(r, fetch(r, b, rom, ram))
     } else {
-        refuse(r, Refusal::BadBoard)
+        answer(r, 0, Outcome::Refused(Refusal::BadBoard))
     }
 }
 

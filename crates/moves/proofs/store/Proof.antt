@@ -9,15 +9,12 @@ pub store-spec : {M : Type 1} → statement M
 unfolding storeOf
 store-spec =
     tie.close
-    (tie.spec (λ c κs. search needs) (λ c κs. search needs) (λ c κs. search needs) (λ c κs. search needs)
-    (λ c κs. search needs) (λ c κs. search needs) (λ c. search needs)
-    (λ c. let e = c .before .before .before .before .write .ensures in
-    simp (
-      c .stored .ensures,
-      c .before .flagged .ensures,
-      ap (λ (m : Written). m .put) e,
-      ap (λ (m : Written). m .mem) e,
-      c .before .before .before .before .before .before .address .ensures,
-      c .before .before .before .before .before .before .before .part .ensures,
-      c .before .before .before .before .before .before .before .before .step-over .ensures,
-    )))
+    (tie.spec (λ c κs. search needs)
+    (λ c κs. search needs)
+    (λ c κs. search needs)
+    (λ c κs. search needs)
+    (λ c κs. search needs)
+    (λ c κs. search needs)
+    (λ c κs. search needs)
+    (λ c. search needs)
+    (λ c. let e = c .before .before .before .before .write .ensures in simp (c .stored .ensures, c .before .flagged .ensures, ap (λ (m : Written). m .put) e, ap (λ (m : Written). m .mem) e, c .before .before .before .before .before .before .address .ensures, c .before .before .before .before .before .before .before .part .ensures, c .before .before .before .before .before .before .before .before .freshened .ensures, c .before .before .before .before .before .before .before .before .before .step-over .ensures)))

@@ -7,4 +7,7 @@ pub adds-subs-spec : {M : Type 1} → statement M
 unfolding addsSubsOf
 adds-subs-spec =
     tie.close
-    (tie.spec (λ c κs. search needs) (λ c κs. search needs) (λ c. cc))
+    (tie.spec (λ c κs. search needs)
+    (λ c κs. search needs)
+    (λ c κs. search needs)
+    (λ c. cc))
