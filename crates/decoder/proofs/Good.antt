@@ -14,7 +14,7 @@ use Rattle.decoder.specs.Names.{Nothing, Mode, Plain, Stepping, Displace
 use Rattle.codes.specs.Code.{_·_, be16, be24, wayDigit, digit013, digit89B, firstDigit, nextDigit, dirDigit, codeOf}
 use Rattle.codes.specs.Valid.{Digit, HasReg, HasImm, HasPlace, Valid}
 use Rattle.decoder.specs.MirrorDecode.{tailOf, fillOf}
-use Rattle.decoder.specs.MirrorWords.{pick, below, regReg, longReg, incDecOf, shiftOf, unaryOf, row0, row1, row5, memoryOf, row6, firstOp}
+use Rattle.decoder.specs.MirrorWords.{pick, below, regReg, longReg, incDecOf, shiftOf, unaryOf, row0, row1, bccDigit, row5, memoryOf, row6, firstOp}
 use Rattle.decoder.specs.MirrorWords.{nextOp, row7, planOf, longMemory, longLogic, after00, afterF0, afterOf}
 
 -- ---- a plan is good after the bytes pre and for the word a b: what it makes is an instruction, and its code is those bytes
@@ -160,7 +160,7 @@ module _ (a b : ℕ) (hb : b < 256) where
   row5-good z =
       if≡ (Good [] a b) (a % 16) 4 (λ h. if≡ (Good [] a b) b 112 (λ k. (tt, two≡ (omega arith) (omega arith))) (λ k. tt)) λ n4.
       if≡ (Good [] a b) (a % 16) 5 (λ h. (hb, two≡ (omega arith) refl)) λ n5.
-      if≡ (Good [] a b) (a % 16) 8 (λ h. if≡ (Good [] a b) (b % 16) 0 (λ k x y hx hy. (omega arith, four≡ [] (omega arith) (omega arith) (omega arith) (omega arith))) (λ k. tt)) λ n8.
+      if≡ (Good [] a b) (a % 16) 8 (λ h. if≡ (Good [] a b) (bccDigit b) 0 (λ k x y hx hy. (omega arith, four≡ [] (omega arith) (omega arith) (omega arith) (omega arith))) (λ k. tt)) λ n8.
       if≡ (Good [] a b) (a % 16) 9
       (λ h. if≡ (Good [] a b) (b % 16) 0 (λ k. short-good (b / 16) (Jmp (ByReg (b / 16))) (λ m. (m, two≡ (omega arith) (omega arith)))) (λ k. tt)) λ n9.
       if≡ (Good [] a b) (a % 16) 10 (λ h x y hx hy. (omega arith, four≡ [] (omega arith) (omega arith) (omega arith) (omega arith))) λ n10.

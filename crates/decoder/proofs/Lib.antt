@@ -3,4 +3,5 @@ mod Shape
 mod Complete
 mod Good
 mod Sound
+mod Planned
 pub mod Laws

@@ -7,7 +7,7 @@ use native.Mathlib.Omega.{arith}
 use native.Mathlib.Nat.{zero-add, div-add-mod', add-sub-cancel-left}
 use lib.Dec.{ltb, eqb}
 use lib.Arith.{digits-div, digits-mod}
-use borrow.Author.Tests.{eqb-false, le-ltb, lt-ltb, ne-eqb}
+use borrow.Author.Tests.{eqb-false, le-ltb, lt-ltb, eq-eqb, ne-eqb}
 use Rattle.decoder.specs.Names.{Width, Byte, Word, Long, Op, Add, Sub, Cmp, Mov, Addx, Subx, Or, Xor, And, Reg, Imm, Way, Up, Down, By, One, Two}
 use Rattle.decoder.specs.Names.{Four, Turn, Shll, Shlr, Rotxl, Rotxr, Shal, Shar, Rotl, Rotr, Single, Not, Neg, Extu, Exts, Change, Orc, Xorc}
 use Rattle.decoder.specs.Names.{Andc, Ldc, Dir, Load, Store, Place, At, Step, Disp, Abs8, Abs16, Abs24, Reach, Near, Far, Target, ByReg, Direct}
@@ -16,7 +16,7 @@ use Rattle.decoder.specs.Names.{Jsr, Rts, Rest, Imm16, Imm32, Disp16, Aa
 use Rattle.decoder.specs.Names.{Plain, Stepping, Displaced, Absolute, Bits16, Bits24, Bits32, Cut}
 use Rattle.codes.specs.Code.{codeOf, _·_, dirDigit, digit013, digit89B, be16, be24, be32}
 use Rattle.codes.specs.Valid.{Valid, Digit}
-use Rattle.decoder.specs.MirrorWords.{pick, below, regReg, longReg, incDecs, shifts, shiftOf, unaries, moveOf, memoryOf, nextOp, plans, planOf}
+use Rattle.decoder.specs.MirrorWords.{pick, exactly, below, regReg, longReg, incDecs, shifts, shiftOf, unaries, bccDigit, moveOf, memoryOf, nextOp, plans, planOf}
 use Rattle.decoder.specs.MirrorWords.{longMemory, longLogic, afterOf}
 use Rattle.decoder.specs.MirrorDecode.{tailOf, fillOf, begunOf, startsOf, prefixedOf}
 
@@ -27,6 +27,10 @@ digits f h k = ap₂ f (digits-div h k) (digits-mod h k)
 
 short : {p : Plan} {d : ℕ} → d < 8 → below d 8 p ≡ p
 short {d = d} h = rw (lt-ltb d 8 h)
+
+-- a test that holds
+taken : {x k : ℕ} {p : Plan} → x ≡ k → exactly x k p ≡ p
+taken {x} {k} e = rw (eq-eqb x k e)
 
 -- ---- what a plan makes of the bytes that follow
 
@@ -293,7 +297,7 @@ bcc-shape : (c : ℕ) (k : Reach) → Valid (Bcc c k) → Shape (Bcc c k) (codeO
 bcc-shape c (Near d) v = by-first 4 (v .0) (omega arith) (omega arith) refl refl
 bcc-shape c (Far d) v =
     plain {b = c · 0} (not1 0x58 refl) refl
-    (two (Bcc16 c) (digits (λ x y. pick (eqb y 0) (Lacks (Bcc16 x)) Nothing) c (omega arith)) refl (ap (λ x. Bcc c (Far x)) (low16 d (v .1))))
+    (two (Bcc16 c) (taken {x = bccDigit (c · 0)} {k = 0} (omega arith) ∙ ap (λ x. Lacks (Bcc16 x)) (digits-div c (omega arith))) refl (ap (λ x. Bcc c (Far x)) (low16 d (v .1))))
 
 jmp-shape : (t : Target) → Valid (Jmp t) → Shape (Jmp t) (codeOf (Jmp t))
 jmp-shape (ByReg e) v = one refl refl (digits (λ x y. pick (eqb y 0) (below x 8 (Whole (Jmp (ByReg x)))) Nothing) e (omega arith) ∙ short v)

@@ -27,7 +27,7 @@ Sound s Unlisted = Unit {0}
 by : (s : List ℕ) {r r' : Found} → r' ≡ r → Sound s r → Sound s r'
 by s e h = subst (λ r. Sound s r) (sym e) h
 
-dec≡ : (x k : ℕ) → (x ≡ k) ⊎ (x ≡ k → ⊥)
+pub dec≡ : (x k : ℕ) → (x ≡ k) ⊎ (x ≡ k → ⊥)
 dec≡ x k = go (eqb x k) refl
   where
     go : (t : Bool) → eqb x k ≡ t → (x ≡ k) ⊎ (x ≡ k → ⊥)

@@ -1,4 +1,5 @@
--- What bytes begin with, case by case as the code of `src/whole.rt` does. As in `MirrorWords`, nothing here is to be believed.
+-- What bytes begin with, case by case as the code of `src/whole.rt` does, and `foundOf`, which asks first how many they are. As in
+-- `MirrorWords`, nothing here is to be believed.
 use Prim.Native.Nat.{ℕ, _+_, _*_, _%_}
 use mathlib.Core.List.{List}
 use lib.Dec.{ltb, eqb}
@@ -59,8 +60,11 @@ begunOf (Whole i) = Cut
 begunOf (Lacks q) = Cut
 begunOf Nothing = Unlisted
 
+abbrev pub aloneOf : ℕ → Plan → Found
+aloneOf a p = pick (eqb a 0x01) Cut (pick (eqb a 0x54) Cut (begunOf p))
+
 abbrev pub startsOf : ℕ → Found
-startsOf a = pick (eqb a 0x01) Cut (pick (eqb a 0x54) Cut (begunOf (planOf a 0)))
+startsOf a = aloneOf a (planOf a 0)
 
 abbrev pub prefixOf : ℕ → Found
 prefixOf b = pick (eqb b 0x00) Cut (pick (eqb b 0xF0) Cut Unlisted)
@@ -77,6 +81,22 @@ foundOf s =
     (pick (eqb (length s) 1) (startsOf (getD s 0 0))
     (pick (eqb (getD s 0 0) 1) (prefixedOf (getD s 1 0) (drop 2 s))
     (finishOf (planOf (getD s 0 0) (getD s 1 0)) (drop 2 s) 2)))
+
+-- the code finds the same another way: the words are planned, with 0 for a byte that is missing, and then it asks how many bytes there are;
+-- `too-few` and `enough` of `proofs/Planned.antt` join the two
+abbrev pub shortOf : Plan → List ℕ → Found
+shortOf p s =
+    pick (eqb (length s) 0) Cut
+    (pick (eqb (length s) 1) (aloneOf (getD s 0 0) p)
+    (pick (eqb (length s) 2) (prefixOf (getD s 1 0)) (begunOf p)))
+
+abbrev pub leadOf : ℕ → ℕ
+leadOf a = pick (eqb a 1) 4 2
+
+abbrev pub plannedOf : List ℕ → Plan
+plannedOf s =
+    pick (eqb (getD s 0 0) 1) (afterOf (getD s 1 0) (getD s 2 0) (getD s 3 0))
+    (planOf (getD s 0 0) (getD s 1 0))
 
 abbrev pub placedOf : ℕ → Found → Decoded
 placedOf place (Is i n) = Code i n

@@ -141,8 +141,12 @@ row1 lo b =
 abbrev pub rtsOf : ℕ → Plan
 rtsOf b = exactly b 0x70 (Whole Rts)
 
+-- the digit of 58c0 that is to be 0
+abbrev pub bccDigit : ℕ → ℕ
+bccDigit b = b % 16
+
 abbrev pub bcc16 : ℕ → Plan
-bcc16 b = exactly (b % 16) 0 (Lacks (Bcc16 (b / 16)))
+bcc16 b = exactly (bccDigit b) 0 (Lacks (Bcc16 (b / 16)))
 
 abbrev pub bsr16 : ℕ → Plan
 bsr16 b = exactly b 0 (Lacks Bsr16)

@@ -7,7 +7,7 @@ use codes::Decoded;
 use refusal::Refusal;
 
 mod plan;
-mod whole;
+pub mod whole;
 mod words;
 
 fn placed(found: Found, place: u32) -> Decoded

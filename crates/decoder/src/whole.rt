@@ -1,7 +1,8 @@
 // What bytes begin with: a word's plan, and the bytes that it lacks.
 ghost use mathlib.Core.Path.{_≡_};
 ghost use Prim.Native.Nat.{_<_};
-ghost use Rattle.decoder.specs.MirrorDecode.{tailOf, fillOf, with16, with24, with32, byTail, finishOf, begunOf, startsOf, prefixOf, prefixedOf, foundOf};
+ghost use lib.ListN.{getD};
+ghost use Rattle.decoder.specs.MirrorDecode.{tailOf, fillOf, with16, with24, with32, byTail, finishOf, begunOf, aloneOf, prefixOf, shortOf, leadOf, plannedOf, foundOf};
 use crate::plan::Plan;
 use crate::plan::Rest;
 use arith::Width;
@@ -12,7 +13,7 @@ use codes::Source;
 use codes::Target;
 
 // What a code lacks after its words: 16 or 32 bits, or a byte 00 and 24 bits.
-pub enum Tail {
+enum Tail {
     Bits16,
     Bits24,
     Bits32,
@@ -136,14 +137,14 @@ fn begun(p: Plan) -> Found
     }
 }
 
-// A single byte: one that begins a code begins one with the second byte 0, but for 01 and 54.
-fn starts(a: u8) -> Found
-    ensures { λ r. ⌜ r ≡ startsOf a ⌝ }
+// A single byte, and the plan of its word with the second byte 0: a byte that begins a code begins one with 0, but for 01 and 54.
+fn alone(a: u8, p: Plan) -> Found
+    ensures { λ r. ⌜ r ≡ aloneOf a p ⌝ }
 {
     match a {
         0x01 => Found::Cut,
         0x54 => Found::Cut,
-        _ => begun(crate::words::first_word(a, 0)),
+        _ => begun(p),
     }
 }
 
@@ -158,34 +159,56 @@ fn prefix(b: u8) -> Found
     }
 }
 
-// What follows 01 and the byte b.
-fn prefixed(b: u8, rest: &[u8]) -> Found
-    ensures { λ r. ⌜ r ≡ prefixedOf b (now (rest .entry)) ⌝ }
-{
-    if rest.len() == 0 {
-        return prefix(b);
-    }
-    if rest.len() == 1 {
-        return begun(crate::words::second_word(b, rest[0], 0));
-    }
-    finish(
-        crate::words::second_word(b, rest[0], rest[1]),
-        &rest[2..],
-        4,
-    )
-}
-
-pub fn begins(s: &[u8]) -> Found
-    ensures { λ r. ⌜ r ≡ foundOf (now (s .entry)) ⌝ }
+// Bytes that are fewer than their words: none, one, 01 and another, or 01 and two more.
+fn short(p: Plan, s: &[u8]) -> Found
+    ensures { λ r. ⌜ r ≡ shortOf p (now (s .entry)) ⌝ }
 {
     if s.len() == 0 {
         return Found::Cut;
     }
     if s.len() == 1 {
-        return starts(s[0]);
+        return alone(s[0], p);
     }
-    if s[0] == 1 {
-        return prefixed(s[1], &s[2..]);
+    if s.len() == 2 {
+        return prefix(s[1]);
     }
-    finish(crate::words::first_word(s[0], s[1]), &s[2..], 2)
+    begun(p)
+}
+
+// A byte that is missing counts as 0.
+fn byte_at(s: &[u8], i: usize) -> u8
+    ensures { λ r. ⌜ r ≡ getD (now (s .entry)) i 0 ⌝ }
+{
+    if i < s.len() { s[i] } else { 0 }
+}
+
+// How many bytes the words have of a code that begins with a.
+fn lead(a: u8) -> u8
+    ensures { λ r. ⌜ r ≡ leadOf a ⌝ }
+{
+    if a == 1 { 4 } else { 2 }
+}
+
+fn planned(s: &[u8]) -> Plan
+    ensures { λ r. ⌜ r ≡ plannedOf (now (s .entry)) ⌝ }
+{
+    if byte_at(s, 0) == 1 {
+        crate::words::second_word(byte_at(s, 1), byte_at(s, 2), byte_at(s, 3))
+    } else {
+        crate::words::first_word(byte_at(s, 0), byte_at(s, 1))
+    }
+}
+
+// The words are planned before it is known that they are whole. So `first_word`, `second_word` and `finish` are each called
+// in one place, where the compiler puts them in, and no plan is copied through memory.
+pub fn begins(s: &[u8]) -> Found
+    ensures { λ r. ⌜ r ≡ foundOf (now (s .entry)) ⌝ }
+{
+    let n = lead(byte_at(s, 0));
+    let p = planned(s);
+    let k = n as usize;
+    if s.len() < k {
+        return short(p, s);
+    }
+    finish(p, &s[k..], n)
 }

@@ -1,17 +1,32 @@
-use Rattle.listing.proofs.Part.{part-decoded}
-use Rattle.codes.specs.declared.Decoded.{Decoded}
-use denote.Ref.{now}
 use mathlib.Core.Path.{ap, _∙_}
-use Rattle.listing.specs.Listing.{foundFlow, flowAt}
-use borrow.Author.Tests.{le-leb, lt-leb}
+use denote.Ref.{now}
 use borrow.Author.Needs.{needs}
+use borrow.Author.Tests.{le-leb, lt-leb}
+use Rattle.codes.specs.declared.Decoded.{Decoded}
+use Rattle.listing.specs.Listing.{foundFlow, flowAt}
+use Rattle.listing.proofs.Part.{part-found}
 use Rattle.listing.proofs.flow_at.Statement.{statement}
 use Rattle.listing.proofs.flow_at.Tie as tie
 
 pub flow-at-spec : {M : Type 1} → statement M
-unfolding flowAt
+unfolding flowAt foundFlow
 flow-at-spec =
     tie.close
-    (tie.spec (λ c. simp (le-leb _ _ (c .if1 .taken))) (λ c. search needs) (λ c. search needs) (λ c. search needs)
-    (λ c κs. search needs) (λ c κs. search needs)
-    (λ c. let s = c .before .before .before .before .before in simp (lt-leb _ _ (c .before .before .before .if1 .left)) (c .found .ensures ∙ ap (λ (d : Decoded). foundFlow (s .args .p) d) (c .before .decode-at .ensures .1 ∙ part-decoded (now (s .args .rom)) (s .args .p)))))
+    (tie.spec (λ c. simp (le-leb _ _ (c .if1 .taken))) (λ c. search needs) (λ c. search needs) (λ c. search needs) (λ c κs. search needs)
+    (λ c. search needs) (λ c κs. search needs) (λ c. search needs) (λ c. search needs)
+    (λ c.
+    let b = c .before .before .before .before in
+    let a = b .before .before .before .before .args in
+    simp (lt-leb _ _ (b .before .before .if1 .left))
+    (c .found .ensures
+    ∙ ap (λ (d : Decoded). foundFlow (a .p) d) (part-found (now (a .rom)) (a .p) (b .begins .ensures) (c .before .before .i .given .1))))
+    (λ c.
+    let b = c .before .before in
+    let a = b .before .before .before .before .args in
+    simp (lt-leb _ _ (b .before .before .if1 .left))
+    (ap (λ (d : Decoded). foundFlow (a .p) d) (part-found (now (a .rom)) (a .p) (b .begins .ensures) (c .enum-told .given .1))))
+    (λ c.
+    let b = c .before .before in
+    let a = b .before .before .before .before .args in
+    simp (lt-leb _ _ (b .before .before .if1 .left))
+    (ap (λ (d : Decoded). foundFlow (a .p) d) (part-found (now (a .rom)) (a .p) (b .begins .ensures) (c .enum-told2 .given .1)))))

@@ -1,28 +1,23 @@
+use mathlib.Core.Path.{ap, _∙_}
+use denote.Ref.{now}
 use borrow.Author.Needs.{needs}
-use borrow.Author.Tests.{eq-eqb, ne-eqb}
 use Rattle.codes.proofs.Laws.{rest-of}
+use Rattle.decoder.proofs.Planned.{too-few, enough}
 use Rattle.decoder.proofs.whole.begins.Statement.{statement}
 use Rattle.decoder.proofs.whole.begins.Tie as tie
 
 pub begins-spec : {M : Type 1} → statement M
 begins-spec =
     tie.close
-    (tie.spec (λ c. rw (eq-eqb _ _ (c .if1 .taken))) (λ c. search needs) (λ c κs. search needs)
-    (λ c. simp (ne-eqb _ _ (c .before .before .before .if1 .left), eq-eqb _ _ (c .before .before .if2 .taken)) (c .starts .ensures))
-    (λ c. search needs) (λ c. search needs) (λ c. search needs) (λ c. search needs) (λ c. search needs) (λ c κs. search needs)
+    (tie.spec (λ c κs. search needs) (λ c κs. search needs) (λ c κs. search needs) (λ c. search needs) (λ c κs. search needs)
     (λ c.
-    simp (
-      ne-eqb _ _ (c .before .before .before .before .before .before .if1 .left),
-      ne-eqb _ _ (c .before .before .before .before .before .if2 .left),
-      eq-eqb _ _ (c .before .before .before .if3 .taken),
-    )
-    (simp rest-of at (c .prefixed .ensures)))
-    (λ c. search needs) (λ c. search needs) (λ c κs. search needs) (λ c. search needs) (λ c. search needs) (λ c. search needs)
-    (λ c κs. search needs)
+    let b = c .before .before in
+    c .short .ensures
+    ∙ too-few (now (b .before .before .before .before .args .s)) (b .before .before .byte-at .ensures) (b .before .lead .ensures) (b .planned .ensures)
+    (c .before .if1 .taken))
+    (λ c. search needs) (λ c. search needs) (λ c. search needs) (λ c κs. search needs)
     (λ c.
-    simp (
-      ne-eqb _ _ (c .before .before .before .before .before .before .before .before .if1 .left),
-      ne-eqb _ _ (c .before .before .before .before .before .before .before .if2 .left),
-      ne-eqb _ _ (c .before .before .before .before .before .if3 .left),
-    )
-    (simp (rest-of, c .before .before .first-word .ensures) at (c .finish .ensures))))
+    let b = c .before .before .before in
+    (simp rest-of at (c .finish .ensures))
+    ∙ enough (now (b .before .before .before .before .args .s)) (b .before .before .byte-at .ensures) (b .before .lead .ensures) (b .planned .ensures)
+    (c .before .before .if1 .left)))
