@@ -28,7 +28,7 @@ use Rattle.memory.specs.declared.Put.the-variants.{Stored, NotStored}
 use Rattle.memory.proofs.Laws.{read-number, write-left, write-number, write-length}
 use Rattle.operate.specs.Operate.{adjustedOf, decimalOf, carriedOf}
 use Rattle.operate.specs.Results.{did, refused}
-use Rattle.operate.specs.declared.Effect.{Effect}
+use Rattle.operate.specs.Results.{Effect}
 use Rattle.moves.specs.Moves.{Stepped, stepped, stepOver, loadedOf, loadOf, storedOf, storeOf, pushOf, poppedOf}
 use Rattle.flow.specs.Targets.{nextOf}
 use Rattle.decoder.specs.MirrorDecode.{decodeOf}

@@ -1,3 +1,4 @@
 pub mod Rest
+pub mod Turns
 pub mod Range
 pub mod Laws

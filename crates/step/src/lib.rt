@@ -1,11 +1,11 @@
 // One step of the processor.
 use arith::Width;
-use codes::Decoded;
 use codes::Dir;
 use codes::Instruction;
 use codes::Place;
 use codes::Reach;
 use codes::Target;
+use decoder::whole::Found;
 use memory::Board;
 use memory::Got;
 use operate::Changes;
@@ -20,6 +20,7 @@ ghost use lib.ListN.{length};
 ghost use Rattle.refusal.specs.declared.Refusal.the-variants.{BadBoard};
 ghost use Rattle.refusal.specs.declared.Outcome.the-variants.{Done};
 ghost use Rattle.codes.specs.States.{bccStates, jmpStates, jsrStates, moveStates};
+ghost use Rattle.decoder.specs.MirrorDecode.{placedOf};
 ghost use Rattle.flow.specs.Targets.{targetOf};
 ghost use Rattle.operate.specs.Changes.{endedOf};
 ghost use Rattle.moves.specs.Moves.{stepped};
@@ -232,12 +233,14 @@ fn obey(i: Instruction, n: usize, r: Registers, b: Board, rom: &[u8], ram: &mut 
     }
 }
 
-fn act(d: Decoded, r: Registers, b: Board, rom: &[u8], ram: &mut [u8]) -> Turn
-    ensures { λ t. ⌜ after (toldOf r t) (now (ram .exit)) ≡ actOf d r b (now (rom .entry)) (now (ram .entry)) ⌝ }
+// What was found at PC.
+fn act(d: Found, r: Registers, b: Board, rom: &[u8], ram: &mut [u8]) -> Turn
+    ensures { λ t. ⌜ after (toldOf r t) (now (ram .exit)) ≡ actOf (placedOf (r .pc) d) r b (now (rom .entry)) (now (ram .entry)) ⌝ }
 {
     match d {
-        Decoded::Code(i, n) => obey(i, n, r, b, rom, ram),
-        Decoded::NoCode(f) => refuse(r, f),
+        Found::Is(i, n) => obey(i, n, r, b, rom, ram),
+        Found::Cut => refuse(r, Refusal::CutShort(r.pc)),
+        Found::Unlisted => refuse(r, Refusal::UnknownCode(r.pc)),
     }
 }
 
@@ -247,7 +250,7 @@ pub fn fetch(r: Registers, b: Board, rom: &[u8], ram: &mut [u8]) -> Turn
 {
     let at = r.pc as usize;
     if at < rom.len() {
-        act(decoder::decode_at(&rom[at..], r.pc), r, b, rom, ram)
+        act(decoder::whole::begins(&rom[at..]), r, b, rom, ram)
     } else {
         refuse(r, Refusal::FetchOutside(r.pc))
     }

@@ -12,5 +12,5 @@ fetch-spec =
     tie.close
     (tie.spec (λ c. search needs) (λ c. search needs) (λ c. search needs) (λ c. search needs) (λ c κs. search needs)
     (λ c κs. search needs) (λ c κs. search needs) (λ c. search needs)
-    (λ c. let s = c .before .before .before .before .before .before .before .before .before .before .args in rw (lt-ltb _ _ (c .before .before .before .before .before .before .if1 .taken)) (c .before .before .act .ensures ∙ rw (c .before .before .before .before .decode-at .ensures .1, rest (s .rom .now) (s .r .pc))))
+    (λ c. let s = c .before .before .before .before .before .before .before .before .before .before .args in rw (lt-ltb _ _ (c .before .before .before .before .before .before .if1 .taken)) (c .before .before .act .ensures ∙ rw (c .before .before .before .before .begins .ensures, rest (s .rom .now) (s .r .pc))))
     (λ c. rw (le-ltb _ _ (c .before .if1 .left)) (cc)))
