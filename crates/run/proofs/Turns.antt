@@ -13,11 +13,49 @@ use Rattle.refusal.specs.declared.Outcome.the-variants.{Done, Refused}
 use Rattle.registers.specs.declared.Registers.{Registers}
 use Rattle.memory.specs.Board.{goodBoard}
 use Rattle.memory.specs.declared.Board.{Board}
-use Rattle.step.specs.Step.{After, after, goodPc, fetchOf, stepOf}
+use Rattle.registers.specs.declared.Condition.{Condition}
+use Rattle.registers.specs.Parts.{withPart, withCondition, withPc}
+use Rattle.flow.specs.Targets.{pcOf}
+use Rattle.operate.specs.declared.Fresh.{Fresh}
+use Rattle.operate.specs.declared.Fresh.the-variants.{Nothing, Part}
+use Rattle.operate.specs.Changes.{freshEr, freshOf, changedOf}
+use Rattle.step.specs.Step.{After, after, answered, stays, finishOf, goodPc, fetchOf, stepOf}
+use Rattle.step.specs.MirrorTurn.{toldOf}
+use Rattle.step.specs.declared.Turn.{Turn}
 use Rattle.step.specs.declared.StepAnswer.{StepAnswer}
 use Rattle.step.proofs.Laws.{Kept, fetch-keeps}
 use Rattle.run.specs.Run.{Ran, ran, told, onward, runFrom}
 use Rattle.run.specs.declared.Ending.the-variants.{AtStop, Spent, Halted}
+
+abbrev pub regs : List ℕ → ℕ → Condition → Registers
+regs er pc f = record { er = er; pc = pc; condition = f }
+
+-- two parts written where the registers lie
+written : (r : Registers) (x y : Fresh) (f : Condition) (p : ℕ)
+    → withPc (withCondition (freshOf (freshOf r x) y) f) p ≡ regs (freshEr (freshEr (r .er) x) y) (pcOf p) f
+unfolding freshOf freshEr withPart
+written r Nothing Nothing f p = refl
+written r Nothing (Part w d v) f p = refl
+written r (Part w d v) Nothing f p = refl
+written r (Part w d v) (Part w′ d′ v′) f p = refl
+
+module _ (r : Registers) (t : Turn) where
+  told-done : t .outcome ≡ Done → toldOf r t ≡ answered (regs (freshEr (freshEr (r .er) (t .changes .first)) (t .changes .second)) (pcOf (t .pc)) (t .changes .condition)) (t .states) Done
+  unfolding toldOf finishOf changedOf
+  told-done d = rw (d, written r (t .changes .first) (t .changes .second) (t .changes .condition) (t .pc))
+
+  told-refused : (f : Refusal) → t .outcome ≡ Refused f → toldOf r t ≡ stays r f
+  unfolding toldOf finishOf
+  told-refused f d = rw d
+
+  module _ (b : Board) (rom ram m : List ℕ) (e : after (toldOf r t) m ≡ fetchOf r b rom ram) where
+    -- the registers that a completed turn leaves, as they were written
+    pub turn-done : t .outcome ≡ Done → (er : List ℕ) (pc : ℕ) → er ≡ freshEr (freshEr (r .er) (t .changes .first)) (t .changes .second) → pc ≡ pcOf (t .pc)
+        → after (answered (regs er pc (t .changes .condition)) (t .states) Done) m ≡ fetchOf r b rom ram
+    turn-done d er pc x y = rw (x, y) (ap (λ (a : StepAnswer). after a m) (sym (told-done d)) ∙ e)
+
+    pub turn-refused : (f : Refusal) → t .outcome ≡ Refused f → after (stays r f) m ≡ fetchOf r b rom ram
+    turn-refused f d = ap (λ (a : StepAnswer). after a m) (sym (told-refused f d)) ∙ e
 
 first : (p q : Bool) → p && q ≡ true → p ≡ true
 first true q e = refl

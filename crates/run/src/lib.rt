@@ -36,34 +36,51 @@ fn answer(r: Registers, steps: u32, states: u64, why: Ending) -> RunAnswer
     }
 }
 
-// The board was looked at once; it stays right, and PC stays one that can be, so the inner step is the step.
+// The board was looked at once; it stays right, and PC stays one that can be, so the inner step is the step. The registers lie here,
+// and a step's changes are written into them.
 fn repeat(b: Board, rom: &[u8], ram: &mut [u8], r: Registers, stop: u32, budget: u32) -> RunAnswer
     requires { ⌜ (budget ≤ 1000000) × (goodBoard b (length (now rom)) (length (now ram)) && goodPc (r .pc) ≡ true) ⌝ }
     ensures { λ q. ⌜ ran q (now (ram .exit)) ≡ runFrom b (now (rom .entry)) stop budget (now (ram .entry)) r 0 0 ⌝ }
 {
-    let mut q = r;
+    let mut er = r.er;
+    let mut pc = r.pc;
+    let mut f = r.condition;
     let mut steps: u32 = 0;
     let mut states: u64 = 0;
     let why = loop {
-        if q.pc == stop {
+        if pc == stop {
             break Ending::AtStop;
         }
         if steps == budget {
             break Ending::Spent;
         }
-        let a = step::fetch(q, b, rom, ram);
-        let o = a.outcome;
+        let q = Registers {
+            er: er,
+            pc: pc,
+            condition: f,
+        };
+        let t = step::fetch(q, b, rom, ram);
+        let o = t.outcome;
         match o {
-            Outcome::Refused(f) => {
-                break Ending::Halted(f);
+            Outcome::Refused(x) => {
+                break Ending::Halted(x);
             }
             Outcome::Done => {}
         }
-        let n = a.regs;
-        q = n;
-        let took = a.states as u64;
-        states = states + took;
+        let c = t.changes;
+        let first = c.first;
+        let second = c.second;
+        operate::write(&mut er, first);
+        operate::write(&mut er, second);
+        f = c.condition;
+        pc = flow::pc(t.pc);
+        states = states + t.states as u64;
         steps = steps + 1;
+    };
+    let q = Registers {
+        er: er,
+        pc: pc,
+        condition: f,
     };
     RunAnswer {
         regs: q,

@@ -122,11 +122,7 @@ fn refuse(r: Registers, f: Refusal) -> Turn
 fn branch(c: u8, reach: Reach, next: u32, r: Registers) -> Turn
     ensures { λ t. ⌜ toldOf r t ≡ finishOf Done r r (cond (holdsOf c (r .condition)) (targetOf next reach) next) (bccStates reach) ⌝ }
 {
-    let to = either(
-        holds(c, r.condition),
-        flow::target(next, reach),
-        next,
-    );
+    let to = either(holds(c, r.condition), flow::target(next, reach), next);
     done(operate::nothing(r), to, codes::bcc_states(reach))
 }
 
