@@ -13,12 +13,13 @@ pub struct Begun {
     pub bad: bool,
 }
 
-// An option's value: k arguments after its name.
-pub fn value(q: Request, name: &[u8], i: usize, k: usize, most: u64, expected: &[u8]) -> Got {
+// Where an option's value stands: k arguments after its name; 0 is none.
+pub fn after(i: usize, k: usize) -> usize {
     if i == 0 {
-        return fault::number(q, name, 0, most, expected);
+        0
+    } else {
+        std::num::wrapping_add_usize(i, k)
     }
-    fault::number(q, name, std::num::wrapping_add_usize(i, k), most, expected)
 }
 
 // The value of an option that may be left out.
@@ -26,7 +27,7 @@ pub fn optional(q: Request, name: &[u8], i: usize, otherwise: u64, expected: &[u
     if i == 0 {
         return Got::Found(otherwise);
     }
-    value(q, name, i, 1, 4294967295, expected)
+    fault::number(q, name, after(i, 1), 4294967295, expected)
 }
 
 fn cleared(entry: u32) -> Begun {
@@ -58,16 +59,21 @@ fn er(q: Request, s: Begun, i: usize) -> Begun {
     if s.bad {
         return s;
     }
-    let Got::Found(n) = value(q, b"N of --er", i, 1, 7, b"a register's number, 0 to 7") else {
+    let Got::Found(n) = fault::number(
+        q,
+        b"N of --er",
+        after(i, 1),
+        7,
+        b"a register's number, 0 to 7",
+    ) else {
         return spoiled(s);
     };
-    let Got::Found(v) = value(
+    let Got::Found(v) = fault::number(
         q,
         b"VALUE of --er",
-        i,
-        2,
+        after(i, 2),
         4294967295,
-        b"a number below 4294967296",
+        b"a number up to 0xffffffff, decimal or 0x",
     ) else {
         return spoiled(s);
     };

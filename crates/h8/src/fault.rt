@@ -16,14 +16,28 @@ fn start(q: Request) {
     }
 }
 
+// A byte that would end the line or steer the screen is shown as a question mark.
+fn shown(b: u8) -> u8 {
+    if (b < 32) | (b == 127) { b'?' } else { b }
+}
+
+fn write_shown(s: &[u8]) {
+    let mut i = 0;
+    while i < s.len() {
+        let b = shown(s[i]);
+        io::write_all(1, &[b]);
+        i += 1;
+    }
+}
+
 // An argument as it was given.
-pub fn given(i: usize) {
+fn given(i: usize) {
     let mut buf = io::buffer();
     let n = os::arg(i, &mut buf);
     if os::errno() == libc::ENAMETOOLONG {
         io::write_all(1, b"(more than 4096 bytes)");
     } else {
-        io::write_all(1, &buf[..n]);
+        write_shown(&buf[..n]);
     }
 }
 
@@ -84,4 +98,15 @@ pub fn number(q: Request, name: &[u8], i: usize, most: u64, expected: &[u8]) -> 
         Number::NotNumber => not(q, name, i, expected),
         Number::TooLarge => not(q, name, i, expected),
     }
+}
+
+// An address; whether it lies in the ROM is the library's to say.
+pub fn address(q: Request, name: &[u8], i: usize) -> Got {
+    number(
+        q,
+        name,
+        i,
+        4294967295,
+        b"an address up to 0xffffffff, decimal or 0x",
+    )
 }

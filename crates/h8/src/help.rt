@@ -31,7 +31,7 @@ pub fn show_help() {
     );
     io::write_all(
         1,
-        b"Numbers are decimal or 0x. With --plain anything is printed as one name and value a line.\n",
+        b"Numbers are decimal or 0x. With --plain an answer is printed as one name and value a line.\n",
     );
     io::write_all(
         1,

@@ -85,7 +85,7 @@ fn faulty(q: Request, u: Use) -> bool {
             q,
             b"the option",
             q.unknown,
-            b"--plain, --ram, --budget, --stop or --er",
+            b"--plain, --ram, --budget, --stop or --er; `h8 help` says more",
         );
         return true;
     }
@@ -111,13 +111,7 @@ fn wide(v: u64) -> usize {
 }
 
 fn figure(q: Request, rom: &[u8], table: &mut [u64]) {
-    let Got::Found(entry) = fault::number(
-        q,
-        b"ENTRY",
-        q.third,
-        4294967295,
-        b"an address, decimal or 0x",
-    ) else {
+    let Got::Found(entry) = fault::address(q, b"ENTRY", q.third) else {
         return;
     };
     if q.fourth == 0 {
@@ -129,7 +123,7 @@ fn figure(q: Request, rom: &[u8], table: &mut [u64]) {
         b"GAP",
         q.fourth,
         999999999999999999,
-        b"a number of states, decimal or 0x",
+        b"a number of states below 10^18, decimal or 0x",
     ) else {
         return;
     };
@@ -137,13 +131,7 @@ fn figure(q: Request, rom: &[u8], table: &mut [u64]) {
 }
 
 fn way(q: Request, rom: &[u8], table: &mut [u64]) {
-    let Got::Found(entry) = fault::number(
-        q,
-        b"ENTRY",
-        q.third,
-        4294967295,
-        b"an address, decimal or 0x",
-    ) else {
+    let Got::Found(entry) = fault::address(q, b"ENTRY", q.third) else {
         return;
     };
     ways::show_way(rom, table, small(entry), q.plain);
@@ -153,7 +141,7 @@ fn word_or(q: Request, name: &[u8], i: usize, otherwise: u64) -> Got {
     if i == 0 {
         return Got::Found(otherwise);
     }
-    fault::number(q, name, i, 4294967295, b"an address, decimal or 0x")
+    fault::address(q, name, i)
 }
 
 fn list_from(q: Request, rom: &[u8], table: &mut [u64], from: usize, to: usize) {
@@ -210,7 +198,16 @@ fn with_room(q: Request, u: Use) {
     with_file(q, u, &mut rom, &mut table, &mut ram);
 }
 
+// As other programs ask for it.
+fn asks_help() -> bool {
+    ask::is(1, b"--help") | ask::is(1, b"-h")
+}
+
 fn main() {
+    if asks_help() {
+        help::show_help();
+        return;
+    }
     let q = ask::requested();
     let u = used(q);
     if faulty(q, u) {

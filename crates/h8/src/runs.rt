@@ -50,12 +50,22 @@ fn board_fault(l: Line, g: Given) -> Line {
     text::bytes(l, b"1: the board is wrong")
 }
 
-// A refusal in words, with the argument that the board is wrong by.
-fn fault_words(l: Line, rom: &[u8], g: Given, f: Refusal) -> Line {
-    if f.number() == 1 {
-        board_fault(l, g)
+// What is refused before the first step lies in the arguments: 1 and 12.
+fn argument_words(l: Line, g: Given, f: Refusal) -> Line {
+    if f.number() == 12 {
+        text::bytes(l, b"12: --budget is over 1000000 steps")
     } else {
-        wording::refusal(l, rom, f)
+        board_fault(l, g)
+    }
+}
+
+fn refused(g: Given, f: Refusal, plain: bool) {
+    if plain {
+        show::number(b"refusal", f.number() as u64);
+        show::place(b"place", f.place());
+        show::line(argument_words(show::name(b"why"), g, f));
+    } else {
+        show::line(argument_words(show::name(b"refused:"), g, f));
     }
 }
 
@@ -76,18 +86,16 @@ fn why(rom: &[u8], g: Given, e: Ending) {
     match e {
         Ending::AtStop => stopped(g),
         Ending::Spent => spent(g),
-        Ending::Halted(f) => show::line(fault_words(show::name(b"ended: refused:"), rom, g, f)),
+        Ending::Halted(f) => show::line(wording::refusal(show::name(b"ended: refused:"), rom, f)),
     }
 }
 
-fn halted_plain(rom: &[u8], g: Given, f: Refusal) {
+fn halted_plain(rom: &[u8], f: Refusal) {
     io::write_all(1, b"ended refusal\n");
-    show::number(b"refusal", f.number() as u64);
-    show::place(b"place", f.place());
-    show::line(fault_words(show::name(b"why"), rom, g, f));
+    show::refused(rom, f, true);
 }
 
-fn why_plain(rom: &[u8], g: Given, e: Ending) {
+fn why_plain(rom: &[u8], e: Ending) {
     match e {
         Ending::AtStop => {
             io::write_all(1, b"ended stop\n");
@@ -95,7 +103,7 @@ fn why_plain(rom: &[u8], g: Given, e: Ending) {
         Ending::Spent => {
             io::write_all(1, b"ended budget\n");
         }
-        Ending::Halted(f) => halted_plain(rom, g, f),
+        Ending::Halted(f) => halted_plain(rom, f),
     }
 }
 
@@ -175,7 +183,7 @@ fn counts(g: Given, steps: u32, states: u64) {
     show::line(text::decimal(text::bytes(b, b", states "), states));
 }
 
-fn answer(rom: &[u8], g: Given, a: RunAnswer) {
+fn answer_words(rom: &[u8], g: Given, a: RunAnswer) {
     let r = a.regs;
     let e = a.why;
     counts(g, a.steps, a.states);
@@ -183,21 +191,39 @@ fn answer(rom: &[u8], g: Given, a: RunAnswer) {
     registers_words(r);
 }
 
-fn answer_plain(rom: &[u8], g: Given, a: RunAnswer) {
+fn answer_plain(rom: &[u8], a: RunAnswer) {
     let r = a.regs;
     let e = a.why;
     show::number(b"steps", a.steps as u64);
     show::number(b"states", a.states);
-    why_plain(rom, g, e);
+    why_plain(rom, e);
     registers_plain(r);
+}
+
+fn answer(rom: &[u8], g: Given, a: RunAnswer, plain: bool) {
+    if plain {
+        answer_plain(rom, a);
+    } else {
+        answer_words(rom, g, a);
+    }
+}
+
+fn halted(rom: &[u8], g: Given, a: RunAnswer, f: Refusal, plain: bool) {
+    let n = f.number();
+    if (n == 1) | (n == 12) {
+        refused(g, f, plain);
+    } else {
+        answer(rom, g, a, plain);
+    }
 }
 
 fn go(rom: &[u8], ram: &mut [u8], g: Given, r: Registers, plain: bool) {
     let a = run::run(Board { base: g.base }, rom, ram, r, g.stop, g.budget);
-    if plain {
-        answer_plain(rom, g, a);
-    } else {
-        answer(rom, g, a);
+    let e = a.why;
+    match e {
+        Ending::AtStop => answer(rom, g, a, plain),
+        Ending::Spent => answer(rom, g, a, plain),
+        Ending::Halted(f) => halted(rom, g, a, f, plain),
     }
 }
 
@@ -212,36 +238,8 @@ fn small(v: u64) -> u32 {
     (v % 4294967296) as u32
 }
 
-pub fn show_run(q: Request, rom: &[u8], ram: &mut [u8]) {
-    let Got::Found(entry) = fault::number(
-        q,
-        b"ENTRY",
-        q.third,
-        4294967295,
-        b"an address, decimal or 0x",
-    ) else {
-        return;
-    };
-    let Got::Found(base) = asked::value(
-        q,
-        b"BASE of --ram",
-        q.ram,
-        1,
-        4294967295,
-        b"an address, decimal or 0x",
-    ) else {
-        return;
-    };
-    let Got::Found(length) = asked::value(
-        q,
-        b"LENGTH of --ram",
-        q.ram,
-        2,
-        65536,
-        b"an even number up to 65536",
-    ) else {
-        return;
-    };
+// The budget and the stop address, which may be left out; the rest is there.
+fn with_ends(q: Request, rom: &[u8], ram: &mut [u8], entry: u32, base: u32, length: u32) {
     let Got::Found(budget) = asked::optional(
         q,
         b"--budget",
@@ -256,21 +254,40 @@ pub fn show_run(q: Request, rom: &[u8], ram: &mut [u8]) {
         b"--stop",
         q.stop,
         NEVER,
-        b"an address, decimal or 0x",
+        b"an address up to 0xffffffff, decimal or 0x",
     ) else {
         return;
     };
-    let s = asked::start(q, small(entry));
+    let s = asked::start(q, entry);
     if s.bad {
         return;
     }
     let g = Given {
         rom: rom.len(),
-        entry: small(entry),
-        base: small(base),
-        length: small(length),
+        entry: entry,
+        base: base,
+        length: length,
         stop: small(stop),
         budget: small(budget),
     };
     lent(rom, ram, g, s.regs, q.plain);
+}
+
+pub fn show_run(q: Request, rom: &[u8], ram: &mut [u8]) {
+    let Got::Found(entry) = fault::address(q, b"ENTRY", q.third) else {
+        return;
+    };
+    let Got::Found(base) = fault::address(q, b"BASE of --ram", asked::after(q.ram, 1)) else {
+        return;
+    };
+    let Got::Found(length) = fault::number(
+        q,
+        b"LENGTH of --ram",
+        asked::after(q.ram, 2),
+        65536,
+        b"an even number up to 65536",
+    ) else {
+        return;
+    };
+    with_ends(q, rom, ram, small(entry), small(base), small(length));
 }
