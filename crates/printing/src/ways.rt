@@ -38,10 +38,10 @@ fn next(w: WayOn) -> u32 {
 }
 
 fn heading() {
-    let a = text::pad(text::bytes(text::blank(), b"place"), 10);
-    let b = text::pad(text::bytes(a, b"bytes"), 28);
-    let c = text::pad(text::bytes(b, b"text"), 58);
-    show::line(text::bytes(text::pad(text::bytes(c, b"states"), 66), b"total"));
+    io::write_all(
+        1,
+        b"place     bytes             text                          states  total\n",
+    );
 }
 
 // Places rise along a way, so it has no more turns than the ROM has bytes.
@@ -64,12 +64,13 @@ fn told(rom: &[u8], table: &[u64], entry: u32, n: u64, plain: bool) {
         heading();
     }
     follow(rom, table, entry, plain);
-    longest::figure(entry, n, plain);
+    longest::longest(entry, n, plain);
 }
 
-pub fn show_way(rom: &[u8], table: &mut [u64], entry: u32, plain: bool) {
-    match figure::figure(rom, entry, table) {
-        Verdict::Longest(n) => told(rom, &table[..], entry, n, plain),
+// The longest way from an entry by a table that figure filled, or why there is none.
+pub fn way(rom: &[u8], table: &[u64], v: Verdict, entry: u32, plain: bool) {
+    match v {
+        Verdict::Longest(n) => told(rom, table, entry, n, plain),
         Verdict::Forbids(f) => show::refused(rom, f, plain),
     }
 }

@@ -42,17 +42,22 @@ pub fn place(s: &[u8], p: u32) {
     line(text::place(name(s), p));
 }
 
-fn refused_plain(rom: &[u8], f: Refusal) {
+fn numbered(f: Refusal) -> Line {
     number(b"refusal", f.number() as u64);
     place(b"place", f.place());
-    line(wording::refusal(name(b"why"), rom, f));
+    name(b"why")
+}
+
+// What stands before a refusal's words; in the plain form its number and place have lines of their own.
+pub fn before(f: Refusal, plain: bool) -> Line {
+    if plain {
+        numbered(f)
+    } else {
+        name(b"refused:")
+    }
 }
 
 // A refusal in words, or its number and place.
 pub fn refused(rom: &[u8], f: Refusal, plain: bool) {
-    if plain {
-        refused_plain(rom, f);
-    } else {
-        line(wording::refusal(name(b"refused:"), rom, f));
-    }
+    line(wording::refusal(before(f, plain), rom, f));
 }

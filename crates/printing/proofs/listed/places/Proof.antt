@@ -3,8 +3,8 @@ use Prim.Native.Nat.{_-_}
 use lib.ListN.{length}
 use native.Mathlib.Omega.{arith}
 use borrow.Author.Needs.{needs}
-use Rattle.h8.proofs.listed.places.Statement.{statement}
-use Rattle.h8.proofs.listed.places.Tie as tie
+use Rattle.printing.proofs.listed.places.Statement.{statement}
+use Rattle.printing.proofs.listed.places.Tie as tie
 
 abbrev Inv-loop : tie.InvT-loop
 Inv-loop rom table from to is-plain p₀ p = Unit {0}

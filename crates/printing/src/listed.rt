@@ -95,10 +95,10 @@ fn one(rom: &[u8], table: &[u64], p: u32, is_plain: bool) -> u8
 }
 
 fn heading() {
-    let a = text::pad(text::bytes(text::blank(), b"place"), 10);
-    let b = text::pad(text::bytes(a, b"bytes"), 28);
-    let c = text::pad(text::bytes(b, b"text"), 58);
-    show::line(text::bytes(text::pad(text::bytes(c, b"states"), 66), b"figure"));
+    io::write_all(
+        1,
+        b"place     bytes             text                          states  figure\n",
+    );
 }
 
 fn places(rom: &[u8], table: &[u64], from: usize, to: usize, is_plain: bool) {
@@ -112,11 +112,10 @@ fn places(rom: &[u8], table: &[u64], from: usize, to: usize, is_plain: bool) {
     }
 }
 
-// The places from `from` to `to`, both included, one instruction after the other.
-pub fn show_list(rom: &[u8], table: &mut [u64], from: usize, to: usize, is_plain: bool) {
-    figure::figure(rom, 0, table);
+// The places from `from` to `to`, both included, one instruction after the other, with the rows of a table that figure filled.
+pub fn list(rom: &[u8], table: &[u64], from: usize, to: usize, is_plain: bool) {
     if !is_plain {
         heading();
     }
-    places(rom, &table[..], from, to, is_plain);
+    places(rom, table, from, to, is_plain);
 }

@@ -3,8 +3,8 @@ use Prim.Native.Nat.{_-_}
 use lib.ListN.{length}
 use native.Mathlib.Omega.{arith}
 use borrow.Author.Needs.{needs}
-use Rattle.h8.proofs.ways.follow.Statement.{statement}
-use Rattle.h8.proofs.ways.follow.Tie as tie
+use Rattle.printing.proofs.ways.follow.Statement.{statement}
+use Rattle.printing.proofs.ways.follow.Tie as tie
 
 abbrev Inv-loop : tie.InvT-loop
 Inv-loop rom table entry plain p₀ total₀ turns₀ p total turns = Unit {0}

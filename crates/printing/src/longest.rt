@@ -1,6 +1,7 @@
 // h8 figure: the longest way in states, and whether it fits a gap.
 use crate::show;
 use figure::Verdict;
+use text::Line;
 
 pub enum Gap {
     States(u64),
@@ -16,7 +17,7 @@ fn figure_line(entry: u32, n: u64) {
 }
 
 // The figure as the last line of a way, too.
-pub fn figure(entry: u32, n: u64, plain: bool) {
+pub fn longest(entry: u32, n: u64, plain: bool) {
     if plain {
         show::number(b"figure", n);
     } else {
@@ -24,38 +25,47 @@ pub fn figure(entry: u32, n: u64, plain: bool) {
     }
 }
 
-fn fits(gap: u64, left: u64) {
-    let a = show::name(b"it fits the gap of");
-    let b = text::decimal(a, gap);
-    let c = text::bytes(b, b" states: ");
-    let d = text::decimal(c, left);
-    show::line(text::bytes(d, b" are left"));
-}
-
-fn fits_not(gap: u64, missing: u64) {
-    let a = show::name(b"it does not fit the gap of");
-    let b = text::decimal(a, gap);
-    let c = text::bytes(b, b" states: ");
-    let d = text::decimal(c, missing);
-    show::line(text::bytes(d, b" are missing"));
+// A gap and how much of it is left or missing.
+fn gap_line(l: Line, gap: u64, rest: u64, last: &[u8]) {
+    let a = text::decimal(l, gap);
+    let b = text::bytes(a, b" states: ");
+    show::line(text::bytes(text::decimal(b, rest), last));
 }
 
 fn gap_words(n: u64, gap: u64) {
     if n <= gap {
-        fits(gap, gap - n);
+        gap_line(
+            show::name(b"it fits the gap of"),
+            gap,
+            gap - n,
+            b" are left",
+        );
     } else {
-        fits_not(gap, n - gap);
+        gap_line(
+            show::name(b"it does not fit the gap of"),
+            gap,
+            n - gap,
+            b" are missing",
+        );
     }
+}
+
+fn fits_plain(left: u64) {
+    io::write_all(1, b"fits yes\n");
+    show::number(b"left", left);
+}
+
+fn fits_not_plain(missing: u64) {
+    io::write_all(1, b"fits no\n");
+    show::number(b"missing", missing);
 }
 
 fn gap_plain(n: u64, gap: u64) {
     show::number(b"gap", gap);
     if n <= gap {
-        io::write_all(1, b"fits yes\n");
-        show::number(b"left", gap - n);
+        fits_plain(gap - n);
     } else {
-        io::write_all(1, b"fits no\n");
-        show::number(b"missing", n - gap);
+        fits_not_plain(n - gap);
     }
 }
 
@@ -68,15 +78,16 @@ fn against(n: u64, gap: u64, plain: bool) {
 }
 
 fn told(entry: u32, n: u64, gap: Gap, plain: bool) {
-    figure(entry, n, plain);
+    longest(entry, n, plain);
     match gap {
         Gap::States(g) => against(n, g, plain),
         Gap::NoGap => {}
     }
 }
 
-pub fn show_figure(rom: &[u8], table: &mut [u64], entry: u32, gap: Gap, plain: bool) {
-    match figure::figure(rom, entry, table) {
+// The verdict on an entry, against a gap if there is one.
+pub fn figure(rom: &[u8], v: Verdict, entry: u32, gap: Gap, plain: bool) {
+    match v {
         Verdict::Longest(n) => told(entry, n, gap, plain),
         Verdict::Forbids(f) => show::refused(rom, f, plain),
     }
