@@ -1,6 +1,5 @@
 // What `h8 run` is asked, from its arguments.
 use crate::ask;
-use crate::ask::Request;
 use crate::fault;
 use crate::fault::Got;
 use arith::Width;
@@ -23,11 +22,11 @@ pub fn after(i: usize, k: usize) -> usize {
 }
 
 // The value of an option that may be left out.
-pub fn optional(q: Request, name: &[u8], i: usize, otherwise: u64, expected: &[u8]) -> Got {
+pub fn optional(plain: bool, name: &[u8], i: usize, otherwise: u64, expected: &[u8]) -> Got {
     if i == 0 {
         return Got::Found(otherwise);
     }
-    fault::number(q, name, after(i, 1), 4294967295, expected)
+    fault::number(plain, name, after(i, 1), 4294967295, expected)
 }
 
 fn cleared(entry: u32) -> Begun {
@@ -55,12 +54,12 @@ fn with_er(s: Begun, n: u64, v: u64) -> Begun {
 }
 
 // The register that the option --er at argument i sets.
-fn er(q: Request, s: Begun, i: usize) -> Begun {
+fn er(plain: bool, s: Begun, i: usize) -> Begun {
     if s.bad {
         return s;
     }
     let Got::Found(n) = fault::number(
-        q,
+        plain,
         b"N of --er",
         after(i, 1),
         7,
@@ -69,7 +68,7 @@ fn er(q: Request, s: Begun, i: usize) -> Begun {
         return spoiled(s);
     };
     let Got::Found(v) = fault::number(
-        q,
+        plain,
         b"VALUE of --er",
         after(i, 2),
         4294967295,
@@ -81,13 +80,12 @@ fn er(q: Request, s: Begun, i: usize) -> Begun {
 }
 
 // Registers are 0 but for those that --er sets, and PC, which is the entry; all flags are 0.
-pub fn start(q: Request, entry: u32) -> Begun {
+pub fn start(plain: bool, count: usize, entry: u32) -> Begun {
     let mut s = cleared(entry);
-    let count = q.count;
     let mut i: usize = 1;
     while i < count {
         if ask::is(i, b"--er") {
-            s = er(q, s, i);
+            s = er(plain, s, i);
         }
         i += 1;
     }

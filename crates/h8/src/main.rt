@@ -78,7 +78,7 @@ fn unknown(q: Request) -> bool {
     let i = q.unknown;
     if i != 0 {
         fault::wrong(
-            q,
+            q.plain,
             b"the option",
             i,
             b"--plain, --ram, --budget, --stop or --er; `h8 help` says more",
@@ -90,7 +90,7 @@ fn unknown(q: Request) -> bool {
 fn too_many(q: Request, u: Use) -> bool {
     let i = surplus(q, u);
     if i != 0 {
-        fault::wrong(q, b"a word too many", i, b"what `h8 help` says");
+        fault::wrong(q.plain, b"a word too many", i, b"what `h8 help` says");
     }
     i != 0
 }
@@ -98,7 +98,7 @@ fn too_many(q: Request, u: Use) -> bool {
 fn misplaced(q: Request, u: Use) -> bool {
     let i = astray(q, u);
     if i != 0 {
-        fault::wrong(q, b"the option", i, b"it with `h8 run` only");
+        fault::wrong(q.plain, b"the option", i, b"it with `h8 run` only");
     }
     i != 0
 }
@@ -124,7 +124,7 @@ fn wide(v: u64) -> usize {
 
 fn gap(q: Request) -> Got {
     fault::number(
-        q,
+        q.plain,
         b"GAP",
         q.fourth,
         999999999999999999,
@@ -132,62 +132,62 @@ fn gap(q: Request) -> Got {
     )
 }
 
-fn figure_of(q: Request, rom: &[u8], table: &mut [u64], entry: u32, gap: Gap) {
+fn figure_of(plain: bool, rom: &[u8], table: &mut [u64], entry: u32, gap: Gap) {
     let v = figure::figure(rom, entry, table);
-    printing::figure(rom, v, entry, gap, q.plain);
+    printing::figure(rom, v, entry, gap, plain);
 }
 
 fn figure_in(q: Request, rom: &[u8], table: &mut [u64], entry: u32) {
     let Got::Found(states) = gap(q) else {
         return;
     };
-    figure_of(q, rom, table, entry, Gap::States(states));
+    figure_of(q.plain, rom, table, entry, Gap::States(states));
 }
 
 fn figure(q: Request, rom: &[u8], table: &mut [u64]) {
-    let Got::Found(entry) = fault::address(q, b"ENTRY", q.third) else {
+    let Got::Found(entry) = fault::address(q.plain, b"ENTRY", q.third) else {
         return;
     };
     if q.fourth == 0 {
-        figure_of(q, rom, table, small(entry), Gap::NoGap);
+        figure_of(q.plain, rom, table, small(entry), Gap::NoGap);
     } else {
         figure_in(q, rom, table, small(entry));
     }
 }
 
-fn way_of(q: Request, rom: &[u8], table: &mut [u64], entry: u32) {
+fn way_of(plain: bool, rom: &[u8], table: &mut [u64], entry: u32) {
     let v = figure::figure(rom, entry, table);
-    printing::way(rom, &table[..], v, entry, q.plain);
+    printing::way(rom, &table[..], v, entry, plain);
 }
 
 fn way(q: Request, rom: &[u8], table: &mut [u64]) {
-    let Got::Found(entry) = fault::address(q, b"ENTRY", q.third) else {
+    let Got::Found(entry) = fault::address(q.plain, b"ENTRY", q.third) else {
         return;
     };
-    way_of(q, rom, table, small(entry));
+    way_of(q.plain, rom, table, small(entry));
 }
 
 fn word_or(q: Request, name: &[u8], i: usize, otherwise: u64) -> Got {
     if i == 0 {
         return Got::Found(otherwise);
     }
-    fault::address(q, name, i)
+    fault::address(q.plain, name, i)
 }
 
-fn list_of(q: Request, rom: &[u8], table: &mut [u64], from: usize, to: usize) {
+fn list_of(plain: bool, rom: &[u8], table: &mut [u64], from: usize, to: usize) {
     figure::figure(rom, 0, table);
-    printing::list(rom, &table[..], from, to, q.plain);
+    printing::list(rom, &table[..], from, to, plain);
 }
 
 // Whether the first place can't be listed; then a line has said so.
 fn no_start(q: Request, rom: &[u8], from: usize) -> bool {
     if rom.len() == 0 {
-        fault::file(q, q.second, b" is empty: there is nothing to list\n");
+        fault::file(q.plain, q.second, b" is empty: there is nothing to list\n");
         return true;
     }
     let bad = (from % 2 != 0) | (rom.len() <= from);
     if bad {
-        fault::wrong(q, b"FROM", q.third, b"an even address inside the ROM");
+        fault::wrong(q.plain, b"FROM", q.third, b"an even address inside the ROM");
     }
     bad
 }
@@ -197,10 +197,10 @@ fn list_from(q: Request, rom: &[u8], table: &mut [u64], from: usize, to: usize) 
         return;
     }
     if to < from {
-        fault::wrong(q, b"TO", q.fourth, b"an address not below FROM");
+        fault::wrong(q.plain, b"TO", q.fourth, b"an address not below FROM");
         return;
     }
-    list_of(q, rom, table, from, to);
+    list_of(q.plain, rom, table, from, to);
 }
 
 fn list(q: Request, rom: &[u8], table: &mut [u64]) {
@@ -225,7 +225,7 @@ fn answer(q: Request, u: Use, rom: &[u8], table: &mut [u64]) {
 }
 
 fn with_file(q: Request, u: Use, rom: &mut [u8], table: &mut [u64]) {
-    let Loaded::Bytes(n) = file::load(q, rom) else {
+    let Loaded::Bytes(n) = file::load(q.plain, q.second, rom) else {
         return;
     };
     if n <= rom.len() {
@@ -246,7 +246,7 @@ fn with_room(q: Request, u: Use) {
 }
 
 fn run_file(q: Request, rom: &mut [u8], ram: &mut [u8]) {
-    let Loaded::Bytes(n) = file::load(q, rom) else {
+    let Loaded::Bytes(n) = file::load(q.plain, q.second, rom) else {
         return;
     };
     if n <= rom.len() {
@@ -286,6 +286,11 @@ fn main() {
         Use::List => with_room(q, u),
         Use::Run => run_room(q),
         Use::Help => help::show_help(),
-        Use::NoUse => fault::wrong(q, b"the use", q.first, b"figure, way, list, run or help"),
+        Use::NoUse => fault::wrong(
+            q.plain,
+            b"the use",
+            q.first,
+            b"figure, way, list, run or help",
+        ),
     }
 }

@@ -28,7 +28,7 @@ fn small(v: u64) -> u32 {
 
 // The registers; all else is there.
 fn begun(q: Request, rom: &[u8], ram: &mut [u8], g: Given) {
-    let s = asked::start(q, g.entry);
+    let s = asked::start(q.plain, q.count, g.entry);
     if !s.bad {
         lent(rom, ram, g, s.regs, q.plain);
     }
@@ -37,7 +37,7 @@ fn begun(q: Request, rom: &[u8], ram: &mut [u8], g: Given) {
 // The budget, which may be left out.
 fn with_budget(q: Request, rom: &[u8], ram: &mut [u8], g: Given) {
     let Got::Found(budget) = asked::optional(
-        q,
+        q.plain,
         b"--budget",
         q.budget,
         1000000,
@@ -53,7 +53,7 @@ fn with_budget(q: Request, rom: &[u8], ram: &mut [u8], g: Given) {
 // The stop address, which may be left out.
 fn with_stop(q: Request, rom: &[u8], ram: &mut [u8], g: Given) {
     let Got::Found(stop) = asked::optional(
-        q,
+        q.plain,
         b"--stop",
         q.stop,
         NEVER,
@@ -68,7 +68,7 @@ fn with_stop(q: Request, rom: &[u8], ram: &mut [u8], g: Given) {
 
 fn with_length(q: Request, rom: &[u8], ram: &mut [u8], entry: u32, base: u32) {
     let Got::Found(length) = fault::number(
-        q,
+        q.plain,
         b"LENGTH of --ram",
         asked::after(q.ram, 2),
         65536,
@@ -88,10 +88,10 @@ fn with_length(q: Request, rom: &[u8], ram: &mut [u8], entry: u32, base: u32) {
 }
 
 pub fn show_run(q: Request, rom: &[u8], ram: &mut [u8]) {
-    let Got::Found(entry) = fault::address(q, b"ENTRY", q.third) else {
+    let Got::Found(entry) = fault::address(q.plain, b"ENTRY", q.third) else {
         return;
     };
-    let Got::Found(base) = fault::address(q, b"BASE of --ram", asked::after(q.ram, 1)) else {
+    let Got::Found(base) = fault::address(q.plain, b"BASE of --ram", asked::after(q.ram, 1)) else {
         return;
     };
     with_length(q, rom, ram, small(entry), small(base));
