@@ -6,6 +6,7 @@ pub enum Number {
     Value(u64),
     NotNumber,
     TooLarge,
+    Missing,
 }
 
 enum Kind {
@@ -238,6 +239,7 @@ fn more(n: Number, hex: bool, b: u8) -> Number {
             decimal_more(v, b)
         },
         Number::NotNumber => Number::NotNumber,
+        Number::Missing => Number::NotNumber,
         Number::TooLarge => if digit(b) < 16 {
             Number::TooLarge
         } else {
@@ -273,5 +275,8 @@ fn number_in(s: &[u8]) -> Number {
 pub fn number_at(i: usize) -> Number {
     let mut buf = io::buffer();
     let n = os::arg(i, &mut buf);
+    if os::errno() == libc::EINVAL {
+        return Number::Missing;
+    }
     number_in(&buf[..n])
 }

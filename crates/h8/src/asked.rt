@@ -1,6 +1,5 @@
 // What `h8 run` is asked, from its arguments.
 use crate::ask;
-use crate::ask::Request;
 use crate::fault;
 use crate::fault::Got;
 use arith::Width;
@@ -13,20 +12,21 @@ pub struct Begun {
     pub bad: bool,
 }
 
-// An option's value: k arguments after its name.
-pub fn value(q: Request, name: &[u8], i: usize, k: usize, most: u64, expected: &[u8]) -> Got {
+// Where an option's value stands: k arguments after its name; 0 is none.
+pub fn after(i: usize, k: usize) -> usize {
     if i == 0 {
-        return fault::number(q, name, 0, most, expected);
+        0
+    } else {
+        std::num::wrapping_add_usize(i, k)
     }
-    fault::number(q, name, std::num::wrapping_add_usize(i, k), most, expected)
 }
 
 // The value of an option that may be left out.
-pub fn optional(q: Request, name: &[u8], i: usize, otherwise: u64, expected: &[u8]) -> Got {
+pub fn optional(plain: bool, name: &[u8], i: usize, otherwise: u64, expected: &[u8]) -> Got {
     if i == 0 {
         return Got::Found(otherwise);
     }
-    value(q, name, i, 1, 4294967295, expected)
+    fault::number(plain, name, after(i, 1), 4294967295, expected)
 }
 
 fn cleared(entry: u32) -> Begun {
@@ -54,20 +54,25 @@ fn with_er(s: Begun, n: u64, v: u64) -> Begun {
 }
 
 // The register that the option --er at argument i sets.
-fn er(q: Request, s: Begun, i: usize) -> Begun {
+fn er(plain: bool, s: Begun, i: usize) -> Begun {
     if s.bad {
         return s;
     }
-    let Got::Found(n) = value(q, b"N of --er", i, 1, 7, b"a register's number, 0 to 7") else {
+    let Got::Found(n) = fault::number(
+        plain,
+        b"N of --er",
+        after(i, 1),
+        7,
+        b"a register's number, 0 to 7",
+    ) else {
         return spoiled(s);
     };
-    let Got::Found(v) = value(
-        q,
+    let Got::Found(v) = fault::number(
+        plain,
         b"VALUE of --er",
-        i,
-        2,
+        after(i, 2),
         4294967295,
-        b"a number below 4294967296",
+        b"a number up to 0xffffffff, decimal or 0x",
     ) else {
         return spoiled(s);
     };
@@ -75,13 +80,12 @@ fn er(q: Request, s: Begun, i: usize) -> Begun {
 }
 
 // Registers are 0 but for those that --er sets, and PC, which is the entry; all flags are 0.
-pub fn start(q: Request, entry: u32) -> Begun {
+pub fn start(plain: bool, count: usize, entry: u32) -> Begun {
     let mut s = cleared(entry);
-    let count = q.count;
     let mut i: usize = 1;
     while i < count {
         if ask::is(i, b"--er") {
-            s = er(q, s, i);
+            s = er(plain, s, i);
         }
         i += 1;
     }

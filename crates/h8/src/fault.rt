@@ -1,42 +1,55 @@
 // What is wrong with the arguments, in one line: the argument's name, what it is and what was expected.
 use crate::ask;
 use crate::ask::Number;
-use crate::ask::Request;
 
 pub enum Got {
     Found(u64),
     Wrong,
 }
 
-fn start(q: Request) {
-    if q.plain {
+fn start(plain: bool) {
+    if plain {
         io::write_all(1, b"error ");
     } else {
         io::write_all(1, b"error: ");
     }
 }
 
+// A byte that would end the line or steer the screen is shown as a question mark.
+fn shown(b: u8) -> u8 {
+    if (b < 32) | (b == 127) { b'?' } else { b }
+}
+
+fn write_shown(s: &[u8]) {
+    let mut i = 0;
+    while i < s.len() {
+        let b = shown(s[i]);
+        io::write_all(1, &[b]);
+        i += 1;
+    }
+}
+
 // An argument as it was given.
-pub fn given(i: usize) {
+fn given(i: usize) {
     let mut buf = io::buffer();
     let n = os::arg(i, &mut buf);
     if os::errno() == libc::ENAMETOOLONG {
         io::write_all(1, b"(more than 4096 bytes)");
     } else {
-        io::write_all(1, &buf[..n]);
+        write_shown(&buf[..n]);
     }
 }
 
-pub fn missing(q: Request, name: &[u8], expected: &[u8]) {
-    start(q);
+pub fn missing(plain: bool, name: &[u8], expected: &[u8]) {
+    start(plain);
     io::write_all(1, name);
     io::write_all(1, b" is missing: expected ");
     io::write_all(1, expected);
     io::write_all(1, b"\n");
 }
 
-pub fn wrong(q: Request, name: &[u8], i: usize, expected: &[u8]) {
-    start(q);
+pub fn wrong(plain: bool, name: &[u8], i: usize, expected: &[u8]) {
+    start(plain);
     io::write_all(1, name);
     io::write_all(1, b" is ");
     given(i);
@@ -46,42 +59,51 @@ pub fn wrong(q: Request, name: &[u8], i: usize, expected: &[u8]) {
 }
 
 // The ROM's file and what is wrong with it.
-pub fn file(q: Request, i: usize, what: &[u8]) {
-    start(q);
+pub fn file(plain: bool, i: usize, what: &[u8]) {
+    start(plain);
     io::write_all(1, b"ROM ");
     given(i);
     io::write_all(1, what);
 }
 
-fn within(q: Request, name: &[u8], i: usize, most: u64, expected: &[u8], v: u64) -> Got {
+fn within(plain: bool, name: &[u8], i: usize, most: u64, expected: &[u8], v: u64) -> Got {
     if v <= most {
         return Got::Found(v);
     }
-    wrong(q, name, i, expected);
+    wrong(plain, name, i, expected);
     Got::Wrong
 }
 
-fn not(q: Request, name: &[u8], i: usize, expected: &[u8]) -> Got {
-    wrong(q, name, i, expected);
+fn not(plain: bool, name: &[u8], i: usize, expected: &[u8]) -> Got {
+    wrong(plain, name, i, expected);
     Got::Wrong
 }
 
-fn no(q: Request, name: &[u8], expected: &[u8]) -> Got {
-    missing(q, name, expected);
+fn no(plain: bool, name: &[u8], expected: &[u8]) -> Got {
+    missing(plain, name, expected);
     Got::Wrong
 }
 
 // The number at argument i, at most `most`; if it is none, a line says so.
-pub fn number(q: Request, name: &[u8], i: usize, most: u64, expected: &[u8]) -> Got {
+pub fn number(plain: bool, name: &[u8], i: usize, most: u64, expected: &[u8]) -> Got {
     if i == 0 {
-        return no(q, name, expected);
-    }
-    if q.count <= i {
-        return no(q, name, expected);
+        return no(plain, name, expected);
     }
     match ask::number_at(i) {
-        Number::Value(v) => within(q, name, i, most, expected, v),
-        Number::NotNumber => not(q, name, i, expected),
-        Number::TooLarge => not(q, name, i, expected),
+        Number::Value(v) => within(plain, name, i, most, expected, v),
+        Number::NotNumber => not(plain, name, i, expected),
+        Number::TooLarge => not(plain, name, i, expected),
+        Number::Missing => no(plain, name, expected),
     }
+}
+
+// An address; whether it lies in the ROM is the library's to say.
+pub fn address(plain: bool, name: &[u8], i: usize) -> Got {
+    number(
+        plain,
+        name,
+        i,
+        4294967295,
+        b"an address up to 0xffffffff, decimal or 0x",
+    )
 }

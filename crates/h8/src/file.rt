@@ -1,5 +1,4 @@
 // The ROM's bytes from a file.
-use crate::ask::Request;
 use crate::fault;
 
 pub enum Loaded {
@@ -58,14 +57,14 @@ fn reason(e: i32) {
     }
 }
 
-fn unread(q: Request, i: usize) {
+fn unread(plain: bool, i: usize) {
     let e = os::errno();
-    fault::file(q, i, b" can't be read: ");
+    fault::file(plain, i, b" can't be read: ");
     reason(e);
 }
 
-fn odd(q: Request, i: usize, n: usize) {
-    fault::file(q, i, b" has ");
+fn odd(plain: bool, i: usize, n: usize) {
+    fault::file(plain, i, b" has ");
     io::print_decimal(1, n as u64);
     io::write_all(
         1,
@@ -73,41 +72,40 @@ fn odd(q: Request, i: usize, n: usize) {
     );
 }
 
-fn fit(q: Request, i: usize, n: usize) -> Loaded {
+fn fit(plain: bool, i: usize, n: usize) -> Loaded {
     if 524288 < n {
         fault::file(
-            q,
+            plain,
             i,
             b" has more than 524288 bytes: expected an even number of bytes, at most 524288\n",
         );
         return Loaded::NotLoaded;
     }
     if n % 2 != 0 {
-        odd(q, i, n);
+        odd(plain, i, n);
         return Loaded::NotLoaded;
     }
     Loaded::Bytes(n)
 }
 
-fn checked(q: Request, i: usize, f: Loaded) -> Loaded {
+fn checked(plain: bool, i: usize, f: Loaded) -> Loaded {
     match f {
-        Loaded::Bytes(n) => fit(q, i, n),
+        Loaded::Bytes(n) => fit(plain, i, n),
         Loaded::NotLoaded => {
-            unread(q, i);
+            unread(plain, i);
             Loaded::NotLoaded
         }
     }
 }
 
-// The file that the second word names, into `rom`, which is longer than any ROM.
-pub fn load(q: Request, rom: &mut [u8]) -> Loaded {
-    let i = q.second;
+// The file that argument i names, into `rom`, which is longer than any ROM.
+pub fn load(plain: bool, i: usize, rom: &mut [u8]) -> Loaded {
     if i == 0 {
-        fault::missing(q, b"ROM", b"a file");
+        fault::missing(plain, b"ROM", b"a file");
         return Loaded::NotLoaded;
     }
     let mut path = io::buffer();
     let n = os::arg(i, &mut path);
     let f = read(&path[..n], rom);
-    checked(q, i, f)
+    checked(plain, i, f)
 }

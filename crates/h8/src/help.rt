@@ -1,5 +1,5 @@
 // What `h8` alone and `h8 help` print.
-pub fn show_help() {
+fn uses() {
     io::write_all(
         1,
         b"h8: how long a routine of an H8/300H ROM can take, in states; every answer is that of a proved library\n\n",
@@ -16,6 +16,9 @@ pub fn show_help() {
         1,
         b"  h8 list ROM [FROM [TO]]        a listing of the places FROM to TO, with the figure of each\n",
     );
+}
+
+fn more_uses() {
     io::write_all(
         1,
         b"  h8 run ROM ENTRY --ram BASE LENGTH [--budget N] [--stop ADDRESS] [--er N VALUE]...\n",
@@ -25,13 +28,16 @@ pub fn show_help() {
         b"                                 runs from ENTRY; prints registers, flags, steps, states and why it ended\n",
     );
     io::write_all(1, b"  h8 help                        this text\n\n");
+}
+
+fn terms() {
     io::write_all(
         1,
         b"ROM is a file, its first byte at address 0: an even number of bytes, at most 524288.\n",
     );
     io::write_all(
         1,
-        b"Numbers are decimal or 0x. With --plain anything is printed as one name and value a line.\n",
+        b"Numbers are decimal or 0x. With --plain an answer is printed as one name and value a line.\n",
     );
     io::write_all(
         1,
@@ -45,6 +51,9 @@ pub fn show_help() {
         1,
         b"The figure counts every path, also one that no data takes; interrupts and seconds are not in it.\n\n",
     );
+}
+
+fn sample() {
     io::write_all(
         1,
         b"The sample's sheet routine begins at 0x0100; between two sheets there are 160 states:\n\n",
@@ -61,4 +70,11 @@ pub fn show_help() {
         1,
         b"  ./h8 way samples/sheet.bin 0x100                                                  where they go\n",
     );
+}
+
+pub fn show_help() {
+    uses();
+    more_uses();
+    terms();
+    sample();
 }

@@ -4,16 +4,12 @@ mod asked;
 mod fault;
 mod file;
 mod help;
-mod listed;
-mod longest;
 mod runs;
-mod show;
-mod ways;
 
 use ask::Request;
 use fault::Got;
 use file::Loaded;
-use longest::Gap;
+use printing::Gap;
 
 // The uses, by their names.
 enum Use {
@@ -78,28 +74,44 @@ fn astray(q: Request, u: Use) -> usize {
     }
 }
 
-// Whether a word or an option is wrong; then a line has said so.
-fn faulty(q: Request, u: Use) -> bool {
-    if q.unknown != 0 {
+fn unknown(q: Request) -> bool {
+    let i = q.unknown;
+    if i != 0 {
         fault::wrong(
-            q,
+            q.plain,
             b"the option",
-            q.unknown,
-            b"--plain, --ram, --budget, --stop or --er",
+            i,
+            b"--plain, --ram, --budget, --stop or --er; `h8 help` says more",
         );
-        return true;
     }
+    i != 0
+}
+
+fn too_many(q: Request, u: Use) -> bool {
     let i = surplus(q, u);
     if i != 0 {
-        fault::wrong(q, b"a word too many", i, b"what `h8 help` says");
+        fault::wrong(q.plain, b"a word too many", i, b"what `h8 help` says");
+    }
+    i != 0
+}
+
+fn misplaced(q: Request, u: Use) -> bool {
+    let i = astray(q, u);
+    if i != 0 {
+        fault::wrong(q.plain, b"the option", i, b"it with `h8 run` only");
+    }
+    i != 0
+}
+
+// Whether a word or an option is wrong; then a line has said so.
+fn faulty(q: Request, u: Use) -> bool {
+    if unknown(q) {
         return true;
     }
-    let k = astray(q, u);
-    if k != 0 {
-        fault::wrong(q, b"the option", k, b"it with `h8 run` only");
+    if too_many(q, u) {
         return true;
     }
-    false
+    misplaced(q, u)
 }
 
 fn small(v: u64) -> u32 {
@@ -110,66 +122,85 @@ fn wide(v: u64) -> usize {
     v as usize
 }
 
-fn figure(q: Request, rom: &[u8], table: &mut [u64]) {
-    let Got::Found(entry) = fault::number(
-        q,
-        b"ENTRY",
-        q.third,
-        4294967295,
-        b"an address, decimal or 0x",
-    ) else {
-        return;
-    };
-    if q.fourth == 0 {
-        longest::show_figure(rom, table, small(entry), Gap::NoGap, q.plain);
-        return;
-    }
-    let Got::Found(gap) = fault::number(
-        q,
+fn gap(q: Request) -> Got {
+    fault::number(
+        q.plain,
         b"GAP",
         q.fourth,
         999999999999999999,
-        b"a number of states, decimal or 0x",
-    ) else {
+        b"a number of states below 10^18, decimal or 0x",
+    )
+}
+
+fn figure_of(plain: bool, rom: &[u8], table: &mut [u64], entry: u32, gap: Gap) {
+    let v = figure::figure(rom, entry, table);
+    printing::figure(rom, v, entry, gap, plain);
+}
+
+fn figure_in(q: Request, rom: &[u8], table: &mut [u64], entry: u32) {
+    let Got::Found(states) = gap(q) else {
         return;
     };
-    longest::show_figure(rom, table, small(entry), Gap::States(gap), q.plain);
+    figure_of(q.plain, rom, table, entry, Gap::States(states));
+}
+
+fn figure(q: Request, rom: &[u8], table: &mut [u64]) {
+    let Got::Found(entry) = fault::address(q.plain, b"ENTRY", q.third) else {
+        return;
+    };
+    if q.fourth == 0 {
+        figure_of(q.plain, rom, table, small(entry), Gap::NoGap);
+    } else {
+        figure_in(q, rom, table, small(entry));
+    }
+}
+
+fn way_of(plain: bool, rom: &[u8], table: &mut [u64], entry: u32) {
+    let v = figure::figure(rom, entry, table);
+    printing::way(rom, &table[..], v, entry, plain);
 }
 
 fn way(q: Request, rom: &[u8], table: &mut [u64]) {
-    let Got::Found(entry) = fault::number(
-        q,
-        b"ENTRY",
-        q.third,
-        4294967295,
-        b"an address, decimal or 0x",
-    ) else {
+    let Got::Found(entry) = fault::address(q.plain, b"ENTRY", q.third) else {
         return;
     };
-    ways::show_way(rom, table, small(entry), q.plain);
+    way_of(q.plain, rom, table, small(entry));
 }
 
 fn word_or(q: Request, name: &[u8], i: usize, otherwise: u64) -> Got {
     if i == 0 {
         return Got::Found(otherwise);
     }
-    fault::number(q, name, i, 4294967295, b"an address, decimal or 0x")
+    fault::address(q.plain, name, i)
+}
+
+fn list_of(plain: bool, rom: &[u8], table: &mut [u64], from: usize, to: usize) {
+    figure::figure(rom, 0, table);
+    printing::list(rom, &table[..], from, to, plain);
+}
+
+// Whether the first place can't be listed; then a line has said so.
+fn no_start(q: Request, rom: &[u8], from: usize) -> bool {
+    if rom.len() == 0 {
+        fault::file(q.plain, q.second, b" is empty: there is nothing to list\n");
+        return true;
+    }
+    let bad = (from % 2 != 0) | (rom.len() <= from);
+    if bad {
+        fault::wrong(q.plain, b"FROM", q.third, b"an even address inside the ROM");
+    }
+    bad
 }
 
 fn list_from(q: Request, rom: &[u8], table: &mut [u64], from: usize, to: usize) {
-    if rom.len() == 0 {
-        fault::file(q, q.second, b" is empty: there is nothing to list\n");
-        return;
-    }
-    if (from % 2 != 0) | (rom.len() <= from) {
-        fault::wrong(q, b"FROM", q.third, b"an even address inside the ROM");
+    if no_start(q, rom, from) {
         return;
     }
     if to < from {
-        fault::wrong(q, b"TO", q.fourth, b"an address not below FROM");
+        fault::wrong(q.plain, b"TO", q.fourth, b"an address not below FROM");
         return;
     }
-    listed::show_list(rom, table, from, to, q.plain);
+    list_of(q.plain, rom, table, from, to);
 }
 
 fn list(q: Request, rom: &[u8], table: &mut [u64]) {
@@ -182,35 +213,68 @@ fn list(q: Request, rom: &[u8], table: &mut [u64]) {
     list_from(q, rom, table, wide(from), wide(to));
 }
 
-fn answer(q: Request, u: Use, rom: &[u8], table: &mut [u64], ram: &mut [u8]) {
+fn answer(q: Request, u: Use, rom: &[u8], table: &mut [u64]) {
     match u {
         Use::Figure => figure(q, rom, table),
         Use::Way => way(q, rom, table),
         Use::List => list(q, rom, table),
-        Use::Run => runs::show_run(q, rom, ram),
-        Use::Help => help::show_help(),
+        Use::Run => {}
+        Use::Help => {}
         Use::NoUse => {}
     }
 }
 
-fn with_file(q: Request, u: Use, rom: &mut [u8], table: &mut [u64], ram: &mut [u8]) {
-    let Loaded::Bytes(n) = file::load(q, rom) else {
+fn with_file(q: Request, u: Use, rom: &mut [u8], table: &mut [u64]) {
+    let Loaded::Bytes(n) = file::load(q.plain, q.second, rom) else {
         return;
     };
     if n <= rom.len() {
-        answer(q, u, &rom[0..n], table, ram);
+        answer(q, u, &rom[0..n], table);
     }
 }
 
-// Room for the longest ROM and two bytes more, by which a longer file is found; a table for it; the longest working memory.
+// Arrays, so that their lengths need no proof.
+fn with_arrays(q: Request, u: Use, rom: &mut [u8; 524290], table: &mut [u64; 524288]) {
+    with_file(q, u, rom, table);
+}
+
+// Room for the longest ROM and two bytes more, by which a longer file is found, and a table for it.
 fn with_room(q: Request, u: Use) {
     let mut rom = [0u8; 524290];
     let mut table = [0u64; 524288];
+    with_arrays(q, u, &mut rom, &mut table);
+}
+
+fn run_file(q: Request, rom: &mut [u8], ram: &mut [u8]) {
+    let Loaded::Bytes(n) = file::load(q.plain, q.second, rom) else {
+        return;
+    };
+    if n <= rom.len() {
+        runs::show_run(q, &rom[0..n], ram);
+    }
+}
+
+fn run_arrays(q: Request, rom: &mut [u8; 524290], ram: &mut [u8; 65536]) {
+    run_file(q, rom, ram);
+}
+
+// The same for a run, with the longest working memory.
+fn run_room(q: Request) {
+    let mut rom = [0u8; 524290];
     let mut ram = [0u8; 65536];
-    with_file(q, u, &mut rom, &mut table, &mut ram);
+    run_arrays(q, &mut rom, &mut ram);
+}
+
+// As other programs ask for it.
+fn asks_help() -> bool {
+    ask::is(1, b"--help") | ask::is(1, b"-h")
 }
 
 fn main() {
+    if asks_help() {
+        help::show_help();
+        return;
+    }
     let q = ask::requested();
     let u = used(q);
     if faulty(q, u) {
@@ -220,8 +284,13 @@ fn main() {
         Use::Figure => with_room(q, u),
         Use::Way => with_room(q, u),
         Use::List => with_room(q, u),
-        Use::Run => with_room(q, u),
+        Use::Run => run_room(q),
         Use::Help => help::show_help(),
-        Use::NoUse => fault::wrong(q, b"the use", q.first, b"figure, way, list, run or help"),
+        Use::NoUse => fault::wrong(
+            q.plain,
+            b"the use",
+            q.first,
+            b"figure, way, list, run or help",
+        ),
     }
 }

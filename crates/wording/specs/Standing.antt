@@ -12,7 +12,7 @@ use Rattle.flow.specs.Targets.{nextOf}
 use Rattle.listing.specs.Listing.{decodedAt}
 use Rattle.text.specs.Lines.{ascii}
 use Rattle.text.specs.Numbers.{hexOf}
-use Rattle.text.specs.Instructions.{textOf}
+use Rattle.mnemonics.specs.Instructions.{textOf}
 
 -- the byte at an address by its two digits; past the end nothing
 unfoldable pub byteText : List ℕ → ℕ → List ℕ

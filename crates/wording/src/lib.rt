@@ -60,7 +60,7 @@ pub fn found(l: Line, p: u32, d: Decoded) -> Line
     match d {
         Decoded::Code(i, n) => {
             let next = flow::next(p, n);
-            text::instruction(l, next, i)
+            mnemonics::instruction(l, next, i)
         }
         Decoded::NoCode(f) => no_code(l, f),
     }

@@ -7,10 +7,10 @@ use Rattle.h8.proofs.asked.start.Statement.{statement}
 use Rattle.h8.proofs.asked.start.Tie as tie
 
 abbrev Inv-loop : tie.InvT-loop
-Inv-loop q entry s₀ count i₀ t6 s i = Unit {0}
+Inv-loop plain count entry s₀ i₀ t s i = Unit {0}
 
 abbrev μ-loop : tie.MeasureT-loop
-μ-loop q entry s₀ count i₀ t6 s i = count - i
+μ-loop plain count entry s₀ i₀ t s i = count - i
 
 -- src/asked.rt:79:9
 cleared-requires : tie.Need-cleared-requires Inv-loop μ-loop

@@ -1,0 +1,335 @@
+/* Asks the library what the tool is asked, and prints the answer in the tool's `--plain` form, without its words (the lines
+   `text` and `why`): a name and a value a line. The reading of arguments and the printing are written here anew.
+
+     ask answer QUESTIONS        each line `$ h8 USE ...` of the file, and its answer
+     ask roms FOLDER N           N random ROMs into the folder; prints questions about them
+     ask code FILE               a ROM with every form eight times from 0x8000 on, for a listing that is assembled again
+     ask states ROM              place, bytes and states of each instruction by the table of forms, as the manual has them */
+#include "decoder.h"
+#include <stdio.h>
+#include <stdlib.h>
+#include <string.h>
+
+enum { ROM_ROOM = H8_ROM_MAX + 2, WORDS = 40, LINE = 400, CODE_AT = 0x8000 };
+typedef unsigned long long ull;
+
+static uint8_t rom[ROM_ROOM], ram[H8_RAM_MAX];
+static uint64_t table[H8_ROM_MAX];
+static size_t rom_n;
+
+static void load(const char *path)
+{
+    FILE *f = fopen(path, "rb");
+    if (!f) {
+        perror(path);
+        exit(2);
+    }
+    rom_n = fread(rom, 1, sizeof rom, f);
+    fclose(f);
+}
+
+static void save(const char *path)
+{
+    FILE *f = fopen(path, "wb");
+    if (!f || fwrite(rom, 1, rom_n, f) != rom_n || fclose(f)) {
+        perror(path);
+        exit(2);
+    }
+}
+
+static uint32_t number(const char *word) { return (uint32_t)strtoull(word, NULL, 0); }
+
+static void print_place(const char *name, uint64_t p)
+{
+    printf("%s 0x%0*llx\n", name, p < 0x10000 ? 4 : p < 0x1000000 ? 6 : 8, (ull)p);
+}
+
+static void print_refusal(const uint64_t *answer)
+{
+    printf("refusal %llu\n", (ull)answer[0]);
+    print_place("place", answer[1]);
+}
+
+static void print_bytes(uint32_t p, uint32_t n)
+{
+    printf("bytes ");
+    for (uint32_t i = p; i < p + n && i < rom_n; i++)
+        printf("%02x", rom[i]);
+    printf("\n");
+}
+
+/* What stands at p; answers its length and adds its states. A word that is no instruction has two bytes and no states. */
+static uint32_t print_code(uint32_t p, uint64_t *states)
+{
+    uint32_t fields[H8_FIELDS];
+    int known = h8_decode(rom + p, rom_n - p, fields, H8_FIELDS) == 0;
+    uint32_t length = known ? fields[H8_LENGTH] : 2;
+    print_place("place", p);
+    print_bytes(p, length);
+    if (known)
+        printf("states %u\n", fields[H8_STATES]);
+    *states += known ? fields[H8_STATES] : 0;
+    return length;
+}
+
+static void figure(uint32_t entry, const char *gap)
+{
+    uint64_t answer[3];
+    if (h8_figure(rom, rom_n, entry, table, rom_n, answer, 3)) {
+        print_refusal(answer);
+        return;
+    }
+    printf("figure %llu\n", (ull)answer[2]);
+    if (!gap)
+        return;
+    uint64_t states = strtoull(gap, NULL, 0);
+    int fits = answer[2] <= states;
+    printf("gap %llu\nfits %s\n", (ull)states, fits ? "yes" : "no");
+    printf(fits ? "left %llu\n" : "missing %llu\n", (ull)(fits ? states - answer[2] : answer[2] - states));
+}
+
+static void way(uint32_t entry)
+{
+    uint64_t answer[3], total = 0;
+    if (h8_figure(rom, rom_n, entry, table, rom_n, answer, 3)) {
+        print_refusal(answer);
+        return;
+    }
+    uint64_t longest = answer[2];
+    for (uint64_t p = entry; p != H8_NONE; p = answer[2]) {
+        print_code((uint32_t)p, &total);
+        printf("total %llu\n", (ull)total);
+        if (h8_way(rom, rom_n, table, rom_n, (uint32_t)p, answer, 3)) {
+            print_refusal(answer);
+            return;
+        }
+    }
+    printf("figure %llu\n", (ull)longest);
+}
+
+static void list(uint32_t from, uint32_t to)
+{
+    uint64_t answer[3], states = 0;
+    h8_figure(rom, rom_n, 0, table, rom_n, answer, 3);
+    for (uint32_t p = from; p < rom_n && p <= to;) {
+        uint32_t n = print_code(p, &states);
+        if (table[p + 1] == H8_NONE)
+            printf("figure %llu\n", (ull)table[p]);
+        else
+            print_place("lowest", table[p + 1]);
+        p += n;
+    }
+}
+
+/* What a run is asked. */
+struct asked {
+    uint32_t regs[H8_REGISTERS], base, length, stop, budget;
+};
+
+static struct asked asked(uint32_t entry, char **word, int words)
+{
+    struct asked a = {.stop = H8_NONE, .budget = H8_BUDGET_MAX};
+    a.regs[H8_PC] = entry;
+    for (int i = 0; i + 1 < words; i++) {
+        if (!strcmp(word[i], "--ram"))
+            a.base = number(word[i + 1]), a.length = number(word[i + 2]);
+        else if (!strcmp(word[i], "--stop"))
+            a.stop = number(word[i + 1]);
+        else if (!strcmp(word[i], "--budget"))
+            a.budget = number(word[i + 1]);
+        else if (!strcmp(word[i], "--er"))
+            a.regs[number(word[i + 1]) & 7] = number(word[i + 2]);
+    }
+    return a;
+}
+
+static void print_registers(const uint32_t *regs)
+{
+    static const char *const flags[8] = {"i", "ui", "h", "u", "n", "z", "v", "c"};
+    print_place("pc", regs[H8_PC]);
+    for (int i = 0; i < 8; i++)
+        printf("er%d 0x%08x\n", i, regs[i]);
+    for (int i = 0; i < 8; i++)
+        printf("%s %u\n", flags[i], regs[H8_CONDITION] >> (7 - i) & 1);
+}
+
+static void run(struct asked a)
+{
+    static const char *const ended[3] = {"stop", "budget", "refusal"};
+    uint64_t answer[5];
+    memset(ram, 0, sizeof ram);
+    uint32_t refusal = h8_run(a.base, rom, rom_n, ram, a.length, a.regs, H8_REGISTERS, a.stop, a.budget, answer, 5);
+    if (refusal == 1 || refusal == 12) {    /* nothing ran: the arguments are wrong */
+        print_refusal(answer);
+        return;
+    }
+    printf("steps %llu\nstates %llu\nended %s\n", (ull)answer[2], (ull)answer[3], ended[answer[4]]);
+    if (refusal)
+        print_refusal(answer);
+    print_registers(a.regs);
+}
+
+static void answer_words(char **word, int words)
+{
+    load(word[1]);
+    const char *third = words > 2 ? word[2] : "0", *fourth = words > 3 ? word[3] : NULL;
+    if (!strcmp(word[0], "figure"))
+        figure(number(third), fourth);
+    else if (!strcmp(word[0], "way"))
+        way(number(third));
+    else if (!strcmp(word[0], "list"))
+        list(number(third), fourth ? number(fourth) : UINT32_MAX);
+    else
+        run(asked(number(third), word, words));
+}
+
+/* A question's words; `--plain` is no part of it. */
+static int cut(char *line, char **word)
+{
+    int n = 0;
+    for (char *w = strtok(line, " \n"); w && n < WORDS; w = strtok(NULL, " \n"))
+        if (strcmp(w, "--plain"))
+            word[n++] = w;
+    return n;
+}
+
+static int answer_all(const char *path)
+{
+    char line[LINE], *word[WORDS];
+    FILE *f = fopen(path, "r");
+    while (f && fgets(line, sizeof line, f)) {
+        if (strncmp(line, "$ h8 ", 5))
+            continue;
+        fputs(line, stdout);
+        int words = cut(line + 5, word);
+        answer_words(word, words);
+    }
+    return f ? fclose(f) : 2;
+}
+
+/* RANDOM ROMS, by a fixed seed. */
+static uint64_t seed = 0x9E3779B97F4A7C15u;
+
+static uint32_t below(uint32_t n)
+{
+    seed ^= seed << 13;
+    seed ^= seed >> 7;
+    seed ^= seed << 17;
+    return (uint32_t)(seed >> 20) % n;
+}
+
+static void append(const uint8_t *bytes, int n)
+{
+    memcpy(rom + rom_n, bytes, (size_t)n);
+    rom_n += (size_t)n;
+}
+
+/* An instruction of a form; branches go an even way, so that their target can be written. */
+static void append_form(int form, uint32_t value)
+{
+    uint8_t code[8];
+    uint32_t other = decoder_other_top(form) ? below((uint32_t)decoder_other_top(form)) : 0;
+    uint32_t reg = decoder_reg_top(form) ? below((uint32_t)decoder_reg_top(form)) : 0;
+    if (forms[form].kind == H8_BCC || forms[form].kind == H8_BSR)
+        value &= ~1u;
+    append(code, build(form, other, value, reg, code));
+}
+
+static int is_branch(int form) { return forms[form].kind == H8_BCC; }
+
+/* One piece of a random ROM: mostly an instruction that goes on, some branches forward, few back, a return, or any word. */
+static void append_piece(void)
+{
+    uint32_t die = below(40);
+    int form = (int)below(FORMS);
+    if (die == 0)
+        append((uint8_t[]){(uint8_t)below(256), (uint8_t)below(256)}, 2);
+    else if (die < 4)
+        append((uint8_t[]){0x54, 0x70}, 2);
+    else if (die < 10)
+        append((uint8_t[]){(uint8_t)(0x40 + below(16)), (uint8_t)(2 * below(12))}, 2);
+    else if (die < 11)
+        append((uint8_t[]){(uint8_t)(0x40 + below(16)), (uint8_t)below(256)}, 2);
+    else if (forms[form].kind < H8_BCC || die < 13)
+        append_form(form, is_branch(form) ? 2 * below(12) : below(2) ? 0xEF10 + below(64) : below(1u << 30));
+}
+
+static void random_rom(void)
+{
+    uint32_t pieces = 1 + below(24);
+    rom_n = 0;
+    while (pieces--)
+        append_piece();
+    for (uint32_t i = below(10); i > 2; i--)
+        append((uint8_t[]){0x54, 0x70}, 2);
+}
+
+static uint32_t random_entry(void)
+{
+    uint32_t die = below(12);
+    return die < 7 || !rom_n ? 0 : die < 11 ? below((uint32_t)rom_n) & ~1u : below(2 * (uint32_t)rom_n);
+}
+
+static void print_questions(const char *name, int k)
+{
+    uint32_t entry = random_entry();
+    printf("$ h8 figure %s 0x%x %u --plain\n", name, entry, below(120));
+    printf("$ h8 way %s %u --plain\n", name, entry);
+    printf("$ h8 run %s %u --ram 0xffef10 %u --budget %u --er %u 0xffef%02x --er 7 0xffef%02x --stop %u --plain\n", name, entry,
+           2 * below(64), 1 + below(50), below(7), 0x10 + below(64), 0x10 + below(128), 2 * below(40));
+    if (k % 4 == 0 && rom_n)
+        printf("$ h8 list %s --plain\n", name);
+}
+
+static int roms(const char *folder, int n)
+{
+    for (int k = 0; k < n; k++) {
+        char path[LINE];
+        snprintf(path, sizeof path, "%s/%03d.bin", folder, k);
+        random_rom();
+        save(path);
+        print_questions(path, k);
+    }
+    return 0;
+}
+
+static int code(const char *path)
+{
+    memset(rom, 0, CODE_AT);
+    rom_n = CODE_AT;
+    for (int k = 0; k < 8; k++)
+        for (int i = 0; i < FORMS; i++)
+            append_form(i, below(1u << 16) << 16 | below(1u << 16));
+    save(path);
+    return 0;
+}
+
+static int states(const char *path)
+{
+    struct decoded d;
+    load(path);
+    for (size_t p = 0; p < rom_n; p += (size_t)decoder_length(d.form)) {
+        if (decode(rom + p, rom_n - p, &d))
+            return 1;
+        printf("0x%04zx ", p);
+        for (int i = 0; i < decoder_length(d.form); i++)
+            printf("%02x", rom[p + (size_t)i]);
+        printf(" %u\n", forms[d.form].states);
+    }
+    return 0;
+}
+
+int main(int argc, char **argv)
+{
+    decoder_start();
+    if (argc == 3 && !strcmp(argv[1], "answer"))
+        return answer_all(argv[2]);
+    if (argc == 4 && !strcmp(argv[1], "roms"))
+        return roms(argv[2], atoi(argv[3]));
+    if (argc == 3 && !strcmp(argv[1], "code"))
+        return code(argv[2]);
+    if (argc == 3 && !strcmp(argv[1], "states"))
+        return states(argv[2]);
+    fprintf(stderr, "use: ask answer QUESTIONS | roms FOLDER N | code FILE | states ROM\n");
+    return 2;
+}
