@@ -16,7 +16,7 @@ ghost use Rattle.arith.specs.Logic.{extsOf};
 ghost use Rattle.registers.specs.Condition.{withMoved};
 ghost use Rattle.registers.specs.Parts.{withCondition};
 ghost use Rattle.operate.specs.Results as Results;
-ghost use Rattle.operate.specs.Changes.{freshOf, changedOf, endedOf};
+ghost use Rattle.operate.specs.MirrorChanges.{freshOf, changedOf, endedOf};
 ghost use Rattle.codes.specs.declared.Place.the-variants as Place;
 ghost use Rattle.moves.specs.Moves.{stepped, bytesOf, addressOf, stepOver, loadedOf, loadOf, storedOf, storeOf, pushOf, poppedOf};
 

@@ -3,7 +3,7 @@ use mathlib.Core.Path.{_≡_, refl}
 use mathlib.Core.List.{List}
 use Rattle.registers.specs.declared.Registers.{Registers}
 use Rattle.registers.specs.Parts.{withPart, withCondition}
-use Rattle.operate.specs.Changes.{freshOf}
+use Rattle.operate.specs.MirrorChanges.{freshOf}
 use Rattle.operate.specs.declared.Fresh.{Fresh}
 use Rattle.operate.specs.declared.Fresh.the-variants.{Nothing, Part}
 

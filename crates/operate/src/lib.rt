@@ -22,7 +22,7 @@ ghost use Rattle.arith.specs.Widths.{bitsOf};
 ghost use Rattle.registers.specs.Condition.{conditionOf};
 ghost use Rattle.refusal.specs.declared.Outcome.the-variants.{Done};
 ghost use Rattle.operate.specs.Results as Results;
-ghost use Rattle.operate.specs.Changes.{onePart, flagsOnly, deed, freshEr, freshOf, changedOf, endedOf};
+ghost use Rattle.operate.specs.MirrorChanges.{onePart, flagsOnly, deed, freshEr, freshOf, changedOf, endedOf};
 ghost use Rattle.operate.specs.Operate as Operate;
 ghost use Rattle.operate.specs.Operate.{stcOf, ldcOf, ccrOf, sourceOf, operatedOf, aluOf, byOf, incDecOf, carriedOf, addsSubsOf, rowOf, addedOf, adjustedOf, decimalOf, turnedOf, shiftOf, unaryOf};
 

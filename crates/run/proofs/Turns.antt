@@ -18,7 +18,7 @@ use Rattle.registers.specs.Parts.{withPart, withCondition, withPc}
 use Rattle.flow.specs.Targets.{pcOf}
 use Rattle.operate.specs.declared.Fresh.{Fresh}
 use Rattle.operate.specs.declared.Fresh.the-variants.{Nothing, Part}
-use Rattle.operate.specs.Changes.{freshEr, freshOf, changedOf}
+use Rattle.operate.specs.MirrorChanges.{freshEr, freshOf, changedOf}
 use Rattle.step.specs.Step.{After, after, answered, stays, finishOf, goodPc, fetchOf, stepOf}
 use Rattle.step.specs.MirrorTurn.{toldOf}
 use Rattle.step.specs.declared.Turn.{Turn}

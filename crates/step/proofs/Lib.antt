@@ -1,4 +1,3 @@
-pub mod Rest
 pub mod Turns
 pub mod Range
 pub mod Laws

@@ -8,7 +8,7 @@ use Rattle.memory.specs.declared.Board.{Board}
 use Rattle.memory.specs.declared.Got.{Got}
 use Rattle.memory.specs.declared.Got.the-variants.{Value, NotRead}
 use Rattle.operate.specs.declared.Changes.{Changes}
-use Rattle.operate.specs.Changes.{changedOf}
+use Rattle.operate.specs.MirrorChanges.{changedOf}
 use Rattle.moves.specs.Moves.{Stepped, pushOf, poppedOf}
 use Rattle.step.specs.Step.{After, after, stays, finishOf}
 use Rattle.step.specs.declared.StepAnswer.{StepAnswer}

@@ -22,7 +22,7 @@ ghost use Rattle.refusal.specs.declared.Outcome.the-variants.{Done};
 ghost use Rattle.codes.specs.States.{bccStates, jmpStates, jsrStates, moveStates};
 ghost use Rattle.decoder.specs.MirrorDecode.{placedOf};
 ghost use Rattle.flow.specs.Targets.{targetOf};
-ghost use Rattle.operate.specs.Changes.{endedOf};
+ghost use Rattle.operate.specs.MirrorChanges.{endedOf};
 ghost use Rattle.moves.specs.Moves.{stepped};
 ghost use Rattle.step.specs.Follow.{evenCondition, holdsOf, aimOf};
 ghost use Rattle.step.specs.Step.{transferOf, after, answered, stays, finishOf, obeyOf, actOf, fetchOf, goodPc, stepOf};

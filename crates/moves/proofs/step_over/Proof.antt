@@ -1,4 +1,4 @@
-use Rattle.operate.specs.Changes.{freshOf}
+use Rattle.operate.specs.MirrorChanges.{freshOf}
 use Rattle.moves.specs.Moves.{stepOver}
 use borrow.Author.Needs.{needs}
 use Rattle.moves.proofs.step_over.Statement.{statement}

@@ -1,4 +1,4 @@
-use Rattle.operate.specs.Changes.{endedOf}
+use Rattle.operate.specs.MirrorChanges.{endedOf}
 use Rattle.moves.specs.Moves.{storedOf}
 use borrow.Author.Needs.{needs}
 use Rattle.moves.proofs.stored.Statement.{statement}

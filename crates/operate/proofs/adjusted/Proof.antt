@@ -1,5 +1,5 @@
 use Rattle.operate.specs.Operate.{adjustedOf}
-use Rattle.operate.specs.Changes.{endedOf}
+use Rattle.operate.specs.MirrorChanges.{endedOf}
 use borrow.Author.Needs.{needs}
 use Rattle.operate.proofs.adjusted.Statement.{statement}
 use Rattle.operate.proofs.adjusted.Tie as tie

@@ -1,4 +1,4 @@
-use Rattle.operate.specs.Changes.{changedOf}
+use Rattle.operate.specs.MirrorChanges.{changedOf}
 use borrow.Author.Needs.{needs}
 use Rattle.operate.proofs.applied.Statement.{statement}
 use Rattle.operate.proofs.applied.Tie as tie

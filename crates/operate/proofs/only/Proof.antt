@@ -1,4 +1,4 @@
-use Rattle.operate.specs.Changes.{changedOf, freshOf}
+use Rattle.operate.specs.MirrorChanges.{changedOf, freshOf}
 use Rattle.operate.proofs.Parts.{fresh-same}
 use Rattle.operate.proofs.only.Statement.{statement}
 use Rattle.operate.proofs.only.Tie as tie

@@ -1,4 +1,4 @@
-use Rattle.operate.specs.Changes.{endedOf}
+use Rattle.operate.specs.MirrorChanges.{endedOf}
 use borrow.Author.Needs.{needs}
 use Rattle.operate.proofs.refused.Statement.{statement}
 use Rattle.operate.proofs.refused.Tie as tie

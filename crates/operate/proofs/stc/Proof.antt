@@ -1,4 +1,4 @@
-use Rattle.operate.specs.Changes.{changedOf, freshOf}
+use Rattle.operate.specs.MirrorChanges.{changedOf, freshOf}
 use Rattle.operate.specs.Operate.{stcOf}
 use Rattle.registers.specs.Parts.{withPart}
 use borrow.Author.Needs.{needs}

@@ -1,4 +1,4 @@
-use Rattle.operate.specs.Changes.{freshEr}
+use Rattle.operate.specs.MirrorChanges.{freshEr}
 use denote.Ref.{now}
 use mathlib.Core.Path.{sym}
 use lib.Seq.{set-out}

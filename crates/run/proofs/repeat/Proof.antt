@@ -7,7 +7,7 @@ use mathlib.Core.Bool.{true, _&&_}
 use lib.ListN.{length}
 use Rattle.memory.specs.Board.{goodBoard}
 use Rattle.refusal.specs.declared.Outcome.the-variants.{Done}
-use Rattle.operate.specs.Changes.{freshEr}
+use Rattle.operate.specs.MirrorChanges.{freshEr}
 use Rattle.step.specs.Step.{answered, stays, goodPc}
 use Rattle.run.specs.Run.{runFrom}
 use Rattle.run.proofs.Turns.{regs, turn-done, turn-refused, stops, spent, still-good, goes-on, refused}

@@ -1,5 +1,5 @@
 use mathlib.Core.Path.{ap}
-use Rattle.operate.specs.Changes.{endedOf}
+use Rattle.operate.specs.MirrorChanges.{endedOf}
 use Rattle.moves.specs.Moves.{Stepped}
 use Rattle.step.specs.MirrorTurn.{toldOf, movedOf, calledOf}
 use borrow.Author.Needs.{needs}

@@ -1,5 +1,5 @@
 use mathlib.Core.Path.{ap}
-use Rattle.operate.specs.Changes.{endedOf}
+use Rattle.operate.specs.MirrorChanges.{endedOf}
 use Rattle.operate.specs.Results.{Effect}
 use Rattle.flow.specs.Targets.{nextOf}
 use Rattle.step.specs.Follow.{aimOf, followOf}

@@ -1,4 +1,4 @@
--- What an instruction changes, as the code hands it on: at most two parts, one after the other, and the condition byte.
+-- What an instruction changes, as the code hands it on: at most two parts, one after the other, and the condition byte. Nothing here is to be believed: the promises of a step and a run are about registers.
 use Prim.Native.Nat.{ℕ, _%_}
 use mathlib.Core.List.{List}
 use lib.ListN.{getD, set}
