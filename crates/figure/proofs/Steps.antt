@@ -26,7 +26,8 @@ use Rattle.codes.specs.declared.Decoded.the-variants.{Code, NoCode}
 use Rattle.codes.proofs.Laws.{bytes-drop}
 use Rattle.decoder.specs.MirrorDecode.{decodeOf}
 use Rattle.decoder.proofs.Laws.{code-read}
-use Rattle.flow.specs.Targets.{pcOf, nextOf, targetOf}
+use Rattle.registers.specs.Parts.{pcOf}
+use Rattle.flow.specs.Targets.{nextOf, targetOf}
 use Rattle.flow.proofs.Signed.{target-even, target-in}
 use Rattle.registers.specs.declared.Condition.{Condition}
 use Rattle.registers.specs.declared.Registers.{Registers}

@@ -12,10 +12,12 @@ use lib.Dec.{T, ltb}
 use mir.Syntax.{w32, w64}
 use mir.Val.{toZ, ofZ, Fits, SFits}
 use mir.ValLaws.{toZ-pos, toZ-ofZ}
-use borrow.Author.Tests.{lt-ltb, le-ltb}
+use native.Mathlib.Nat.{mod-eq-of-lt}
+use borrow.Author.Tests.{lt-ltb, le-ltb, lt-leb, le-leb}
 use Rattle.codes.specs.declared.Reach.{Reach}
 use Rattle.codes.specs.declared.Reach.the-variants.{Near, Far}
-use Rattle.flow.specs.Targets.{signed, displacementOf, addressOf, targetOf}
+use Rattle.arith.specs.Widths.{topBit, signedOf}
+use Rattle.flow.specs.Targets.{displacementOf, addressOf, targetOf}
 
 minus : (a b : ℕ) → pos a -ℤ pos b ≡ subℕ a b
 minus a zero = simp (le-ltb a 0 (omega arith)) (ap pos (omega arith))
@@ -24,19 +26,27 @@ minus a (suc b) = refl
 below : {a b : ℕ} → a < b → pos a -ℤ pos b ≡ negsuc (b - suc a)
 below {a} {b} h = minus a b ∙ simp (lt-ltb a b h)
 
--- a displacement's parts, with half the numbers of its width as a parameter
-module _ (half d : ℕ) (small : half ≤ 32768) where
+-- a displacement's parts, with its width k and half of its numbers as parameters
+module _ (k half d : ℕ) (top : 2 ^ (k - 1) ≡ half) (all : 2 ^ k ≡ 2 * half) (small : half ≤ 32768) where
+  signed-low : d < half → signedOf k d ≡ pos d
+  unfolding signedOf
+  signed-low h = let l : d < 2 * half = omega arith in rw (all, top, mod-eq-of-lt l, lt-leb half d h)
+
+  signed-high : half ≤ d → d < 2 * half → signedOf k d ≡ subℕ d (2 * half)
+  unfolding signedOf
+  signed-high h l = rw (all, top, mod-eq-of-lt l, le-leb half d h)
+
   plain : d < 2 * half → toZ w32 d ≡ pos d
   plain h = toZ-pos w32 d (omega arith)
 
-  pub low-signed : d < half → (toZ w32 d ≡ signed half d) × (mag (toZ w32 d) < half)
-  low-signed h = rw (plain (omega arith)) (sym (simp (lt-ltb d half h)), h)
+  pub low-signed : d < half → (toZ w32 d ≡ signedOf k d) × (mag (toZ w32 d) < half)
+  low-signed h = rw (plain (omega arith)) (sym (signed-low h), h)
 
   pub high-fits : half ≤ d → d < 2 * half → SFits w32 (toZ w32 d -ℤ pos (2 * half))
-  high-fits h k = rw (plain k, below k) (record { sfits = omega arith })
+  high-fits h l = rw (plain l, below l) (record { sfits = omega arith })
 
-  pub high-signed : half ≤ d → d < 2 * half → (toZ w32 (ofZ w32 (toZ w32 d -ℤ pos (2 * half))) ≡ signed half d) × (mag (toZ w32 (ofZ w32 (toZ w32 d -ℤ pos (2 * half)))) < half)
-  high-signed h k = rw (toZ-ofZ w32 _ (high-fits h k), plain k, below k) (sym (simp (le-ltb d half h)), omega arith)
+  pub high-signed : half ≤ d → d < 2 * half → (toZ w32 (ofZ w32 (toZ w32 d -ℤ pos (2 * half))) ≡ signedOf k d) × (mag (toZ w32 (ofZ w32 (toZ w32 d -ℤ pos (2 * half)))) < half)
+  high-signed h l = rw (toZ-ofZ w32 _ (high-fits h l), plain l, below l) (sym (signed-high h l ∙ simp (lt-ltb d (2 * half) l)), omega arith)
 
 -- a displacement as its caller reads it
 pub kept : (z : ℤ) → mag z < 32768 → toZ w32 (ofZ w32 z) ≡ z
@@ -109,7 +119,7 @@ module _ (next : ℕ) (z : ℤ) (n : next < 2 ^ 32) (h : mag z < 32768) where
   pub read-fits : T (nonNeg (toZ w64 (ofZ w64 raised))) × Fits w64 (natAbs (toZ w64 (ofZ w64 raised)))
   read-fits = rw read-is (tt, record { fits = omega (arith, lifted-small next z n h) })
 
-  pub address-is : natAbs (toZ w64 (ofZ w64 raised)) % 16777216 / 2 * 2 ≡ addressOf (pos next +ℤ z) / 2 * 2
+  pub address-is : natAbs (toZ w64 (ofZ w64 raised)) % 16777216 ≡ addressOf (pos next +ℤ z)
   address-is = rw (read-is, lifted-address next z h)
 
 -- a target is a place
@@ -124,23 +134,3 @@ address-small (negsuc n) = omega arith
 pub target-in : (next : ℕ) (reach : Reach) → targetOf next reach < 16777216
 unfolding targetOf
 target-in next reach = omega (arith, address-small (pos next +ℤ displacementOf reach))
-
--- a target in unsigned numbers, with half the numbers of the displacement's width as a parameter
-signed-address : (half next d : ℕ) → half ≤ 32768 → d < 2 * half → addressOf (pos next +ℤ signed half d) ≡ (next + cond (ltb d half) (d + half) (d - half) + (16777216 - half)) % 16777216
-signed-address half next d s h =
-    ⊎-elim (λ (k : half ≤ d). simp (le-ltb d half k, below h) (sym (lifted-address next (negsuc (2 * half - suc d)) (omega arith)) ∙ omega arith)) (λ (k : d < half). simp (lt-ltb d half k) (omega arith)) (le-or half d)
-
--- the same for d:8 and d:16
-swap-near : (d : ℕ) → d < 256 → cond (ltb d 128) (d + 128) (d - 128) ≡ (d + 128) % 256
-swap-near d h = ⊎-elim (λ (k : 128 ≤ d). simp (le-ltb d 128 k) (omega arith)) (λ (k : d < 128). simp (lt-ltb d 128 k) (omega arith)) (le-or 128 d)
-
-swap-far : (d : ℕ) → d < 65536 → cond (ltb d 32768) (d + 32768) (d - 32768) ≡ (d + 32768) % 65536
-swap-far d h = ⊎-elim (λ (k : 32768 ≤ d). simp (le-ltb d 32768 k) (omega arith)) (λ (k : d < 32768). simp (lt-ltb d 32768 k) (omega arith)) (le-or 32768 d)
-
-pub target-near : (next d : ℕ) → d < 256 → targetOf next (Near d) ≡ (next + (d + 128) % 256 + 16777088) % 16777216 / 2 * 2
-unfolding targetOf
-target-near next d h = rw (signed-address 128 next d (omega arith) (omega arith), swap-near d h)
-
-pub target-far : (next d : ℕ) → d < 65536 → targetOf next (Far d) ≡ (next + (d + 32768) % 65536 + 16744448) % 16777216 / 2 * 2
-unfolding targetOf
-target-far next d h = rw (signed-address 32768 next d (omega arith) (omega arith), swap-far d h)

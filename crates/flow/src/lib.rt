@@ -3,11 +3,12 @@ use codes::Reach;
 ghost use mathlib.Core.Path.{_≡_};
 ghost use Prim.Native.Nat.{_<_};
 ghost use lib.Signed.{mag};
-ghost use Rattle.flow.specs.Targets.{signed, displacementOf, targetOf, pcOf, nextOf};
+ghost use Rattle.arith.specs.Widths.{signedOf};
+ghost use Rattle.flow.specs.Targets.{displacementOf, targetOf, nextOf};
 
 // d:8 as a signed number.
 fn near(d: u8) -> i32
-    ensures { λ r. ⌜ (r ≡ signed 128 d) × (mag r < 128) ⌝ }
+    ensures { λ r. ⌜ (r ≡ signedOf 8 d) × (mag r < 128) ⌝ }
 {
     let x = d as i32;
     if d < 128 { x } else { x - 256 }
@@ -15,7 +16,7 @@ fn near(d: u8) -> i32
 
 // d:16 as a signed number.
 fn far(d: u16) -> i32
-    ensures { λ r. ⌜ (r ≡ signed 32768 d) × (mag r < 32768) ⌝ }
+    ensures { λ r. ⌜ (r ≡ signedOf 16 d) × (mag r < 32768) ⌝ }
 {
     let x = d as i32;
     if d < 32768 { x } else { x - 65536 }
@@ -41,14 +42,7 @@ pub fn target(next: u32, reach: Reach) -> u32
     // 2^24 more, so that it is not below 0
     let sum = from + by + 16777216;
     let address = sum as u64;
-    (address % 16777216 / 2 * 2) as u32
-}
-
-// What PC holds when it is set to an address.
-pub fn pc(a: u32) -> u32
-    ensures { λ r. ⌜ r ≡ pcOf a ⌝ }
-{
-    a % 16777216 / 2 * 2
+    registers::pc((address % 16777216) as u32)
 }
 
 // The address of the next instruction, n bytes on.

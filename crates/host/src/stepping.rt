@@ -37,7 +37,7 @@ fn step_lent(base: u32, rom: &[u8], ram: &mut [u8], regs: &mut [u32], answer: &m
     ensures { λ n. ⌜ left n (now (ram .exit)) (now (regs .exit)) (now (answer .exit)) ≡ stepLent base (now (rom .entry)) (now (ram .entry)) (now (regs .entry)) (now (answer .entry)) ⌝ }
 {
     let b = Board { base: base };
-    let q = step::step(b, rom, ram, lent::registers_in(&regs[..]));
+    let q = run::single(b, rom, ram, lent::registers_in(&regs[..]));
     tell_step(q, regs, answer)
 }
 

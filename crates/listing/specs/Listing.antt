@@ -13,7 +13,8 @@ use Rattle.codes.specs.declared.Target.the-variants.{ByReg, Direct, Vector}
 use Rattle.codes.specs.declared.Decoded.{Decoded}
 use Rattle.codes.specs.declared.Decoded.the-variants.{Code, NoCode}
 use Rattle.decoder.specs.MirrorDecode.{decodeOf}
-use Rattle.flow.specs.Targets.{pcOf, nextOf, targetOf}
+use Rattle.registers.specs.Parts.{pcOf}
+use Rattle.flow.specs.Targets.{nextOf, targetOf}
 use Rattle.paths.specs.declared.Flow.{Flow}
 use Rattle.paths.specs.declared.Flow.the-variants.{Next, Jump, Either, Ends, Stop}
 

@@ -27,7 +27,7 @@ fn jump(p: u32, to: Target, s: u64) -> Flow
 {
     match to {
         Target::ByReg(_) => Flow::Stop(Refusal::NotFollowed(p)),
-        Target::Direct(a) => Flow::Jump(flow::pc(a), s),
+        Target::Direct(a) => Flow::Jump(registers::pc(a), s),
         Target::Vector(_) => Flow::Stop(Refusal::NotFollowed(p)),
     }
 }

@@ -35,11 +35,12 @@ withPart w r d x =
 abbrev pub withCondition : Registers → Condition → Registers
 withCondition r f = record { er = r .er; pc = r .pc; condition = f }
 
-abbrev pub evenPart : ℕ → ℕ
-evenPart p = p % 2 ^ 24 / 2 * 2
+-- what PC holds when it is set to an address
+abbrev pub pcOf : ℕ → ℕ
+pcOf a = a % 2 ^ 24 / 2 * 2
 
 abbrev pub withPc : Registers → ℕ → Registers
-withPc r p = record { er = r .er; pc = evenPart p; condition = r .condition }
+withPc r p = record { er = r .er; pc = pcOf p; condition = r .condition }
 
 -- m is a power of two that the code divides by; nothing to be believed
 pub record Below (is m : ℕ) : Type 0 where

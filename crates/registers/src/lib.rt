@@ -7,7 +7,7 @@ use arith::Width;
 ghost use mathlib.Core.Path.{_≡_};
 ghost use Prim.Native.Nat.{_/_, _*_, _%_};
 ghost use Rattle.registers.specs.Condition.{conditionOf, byteOf, withSum, withExtended, withCounted, withShifted, withMoved, withAdjusted};
-ghost use Rattle.registers.specs.Parts.{Below, belowOf, partOf, insertOf, withPart, withCondition, withPc};
+ghost use Rattle.registers.specs.Parts.{Below, belowOf, partOf, insertOf, withPart, withCondition, pcOf, withPc};
 
 // The condition byte as its eight bits: each change of flags is then a record, and "the others stay" can be seen.
 pub struct Condition {
@@ -224,10 +224,18 @@ pub fn with_condition(r: Registers, f: Condition) -> Registers
     q
 }
 
+// What PC holds when it is set to an address.
+pub fn pc(a: u32) -> u32
+    ensures { λ r. ⌜ r ≡ pcOf a ⌝ }
+{
+    a % 0x1000000 / 2 * 2
+}
+
 pub fn with_pc(r: Registers, p: u32) -> Registers
     ensures { λ q. ⌜ q ≡ withPc r p ⌝ }
 {
     let mut q = r;
-    q.pc = p % 0x1000000 / 2 * 2;
+    let even = pc(p);
+    q.pc = even;
     q
 }

@@ -14,8 +14,7 @@ use Rattle.registers.specs.declared.Registers.{Registers}
 use Rattle.memory.specs.Board.{goodBoard}
 use Rattle.memory.specs.declared.Board.{Board}
 use Rattle.registers.specs.declared.Condition.{Condition}
-use Rattle.registers.specs.Parts.{withPart, withCondition, withPc}
-use Rattle.flow.specs.Targets.{pcOf}
+use Rattle.registers.specs.Parts.{withPart, withCondition, pcOf, withPc}
 use Rattle.operate.specs.declared.Fresh.{Fresh}
 use Rattle.operate.specs.declared.Fresh.the-variants.{Nothing, Part}
 use Rattle.operate.specs.MirrorChanges.{freshEr, freshOf, changedOf}

@@ -3,12 +3,15 @@ use memory::Board;
 use refusal::Outcome;
 use refusal::Refusal;
 use registers::Registers;
+use step::StepAnswer;
 ghost use mathlib.Core.Path.{_≡_};
 ghost use mathlib.Core.Bool.{true, _&&_};
 ghost use Prim.Native.Nat.{_≤_};
 ghost use lib.ListN.{length};
 ghost use Rattle.memory.specs.Board.{goodBoard};
-ghost use Rattle.step.specs.Step.{goodPc};
+ghost use Prim.Native.Nat.{_%_};
+ghost use Rattle.step.specs.Step.{after, answered, goodPc, stepOf};
+ghost use Rattle.run.specs.MirrorSingle.{outcomeOf};
 ghost use Rattle.run.specs.Run.{ran, told, runFrom, runOf};
 
 // Why a run ended.
@@ -73,7 +76,7 @@ fn repeat(b: Board, rom: &[u8], ram: &mut [u8], r: Registers, stop: u32, budget:
         operate::write(&mut er, first);
         operate::write(&mut er, second);
         f = c.condition;
-        pc = flow::pc(t.pc);
+        pc = registers::pc(t.pc);
         states = states + t.states as u64;
         steps = steps + 1;
     };
@@ -100,4 +103,36 @@ pub fn run(b: Board, rom: &[u8], ram: &mut [u8], r: Registers, stop: u32, budget
         return repeat(b, rom, ram, r, stop, budget);
     }
     answer(r, 0, 0, Ending::Halted(Refusal::BadBoard))
+}
+
+fn outcome(why: Ending) -> Outcome
+    ensures { λ o. ⌜ o ≡ outcomeOf why ⌝ }
+{
+    match why {
+        Ending::AtStop => Outcome::Done,
+        Ending::Spent => Outcome::Done,
+        Ending::Halted(f) => Outcome::Refused(f),
+    }
+}
+
+fn ended(q: Registers, states: u64, why: Ending) -> StepAnswer
+    ensures { λ s. ⌜ s ≡ answered q (states % 4294967296) (outcomeOf why) ⌝ }
+{
+    let o = outcome(why);
+    StepAnswer {
+        regs: q,
+        states: (states % 4294967296) as u32,
+        outcome: o,
+    }
+}
+
+// `step::step` as a run of one step. In a library that has both, the step is then compiled once, into the loop. The stop address is
+// odd, and PC is not.
+pub fn single(b: Board, rom: &[u8], ram: &mut [u8], r: Registers) -> StepAnswer
+    ensures { λ q. ⌜ after q (now (ram .exit)) ≡ stepOf b (now (rom .entry)) (now (ram .entry)) r ⌝ }
+{
+    let a = run(b, rom, ram, r, 1, 1);
+    let q = a.regs;
+    let why = a.why;
+    ended(q, a.states, why)
 }

@@ -33,6 +33,7 @@ use Rattle.moves.specs.Moves.{Stepped, stepped, stepOver, loadedOf, loadOf, sto
 use Rattle.flow.specs.Targets.{nextOf}
 use Rattle.decoder.specs.MirrorDecode.{decodeOf}
 use Rattle.codes.specs.States.{statesOf, goesOf}
+use Rattle.codes.proofs.Laws.{states-range}
 use Rattle.step.specs.Follow.{aimOf, followOf}
 use Rattle.step.specs.Step.{transferOf, effectOf, After, after, answered, stays, finishOf, carryOf, obeyOf, actOf, fetchOf, goodPc, stepOf}
 use Rattle.step.proofs.Range.{whole-stc, whole-ldc, whole-ccr, whole-alu, whole-inc-dec, whole-carried, whole-adds-subs, whole-added, whole-shift, whole-unary, whole-over}
@@ -212,3 +213,18 @@ module _ (r : Registers) (b : Board) (rom ram : List ℕ) where
 
   pub fetch-refused : (f : Refusal) → fetchOf r b rom ram .answer .outcome ≡ Refused f → fetchOf r b rom ram ≡ after (stays r f) ram
   fetch-refused f e = refused-stays _ (comes r b rom ram) f e
+
+  few : (a : After) → Comes r b rom ram a → a .answer .states ≤ 12
+  few a (outside l) = omega arith
+  few a (no-code f l d) = omega arith
+  few a (by-data i n f l d k) = omega arith
+  few a (completes i n p q m l d g e k h) = states-range i .1
+
+  few-on : (t : Bool) → goodBoard b (length rom) (length ram) && goodPc (r .pc) ≡ t → stepOf b rom ram r .answer .states ≤ 12
+  unfolding stepOf
+  few-on true e = rw e (few _ (comes r b rom ram))
+  few-on false e = rw e (omega arith)
+
+  -- a step takes at most 12 states
+  pub step-states : stepOf b rom ram r .answer .states ≤ 12
+  step-states = few-on _ refl
