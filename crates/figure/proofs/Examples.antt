@@ -8,6 +8,7 @@ use lib.ListN.{length, getD, List·getD-eq-default}
 use lib.Dec.{lit<, lit≤}
 use Rattle.refusal.specs.declared.Refusal.the-variants.{FetchOutside, BadEntry, NotUpward}
 use Rattle.codes.specs.Exact.{Bytes}
+use Rattle.arith.specs.Widths.{signedOf}
 use Rattle.flow.specs.Targets.{targetOf}
 use Rattle.paths.specs.Paths.{RowsFrom}
 use Rattle.paths.specs.MirrorRows.{rowOf, joined, upwardOf, reckonedOf, whyOf}
@@ -45,7 +46,7 @@ bytes10 : Bytes code10
 bytes10 = omega arith
 
 filled10 : Filled code10 sevens table10
-unfolding flowAt foundFlow goesFlow branchFlow decodedAt targetOf rowOf joined upwardOf reckonedOf
+unfolding flowAt foundFlow goesFlow branchFlow decodedAt signedOf targetOf rowOf joined upwardOf reckonedOf
 filled10 =
     let d = down code10 bytes10 refl (lit≤ tt) table10 in
     record { same-length = refl; rows = d 0 refl (lit< tt) refl (d 2 refl (lit< tt) refl (d 4 refl (lit< tt) refl (above code10 bytes10 refl (lit≤ tt) table10 6 (lit≤ tt)))); rest = past table10 sevens 6 (lit≤ tt) (lit≤ tt) }
@@ -76,15 +77,15 @@ one-row a b x y rest bytes i =
 
 -- example 11: 40FE, refusal 10 at 0
 pub example11 : Figured (0x40 ∷ 0xFE ∷ []) 0 (7 ∷ 7 ∷ []) (Forbids (NotUpward 0)) (0 ∷ 0 ∷ [])
-unfolding flowAt foundFlow goesFlow branchFlow decodedAt targetOf rowOf joined upwardOf reckonedOf askedOf verdictOf whyAt whyOf
+unfolding flowAt foundFlow goesFlow branchFlow decodedAt signedOf targetOf rowOf joined upwardOf reckonedOf askedOf verdictOf whyAt whyOf
 example11 = figured-fit (0x40 ∷ 0xFE ∷ []) (omega arith) 0 (7 ∷ 7 ∷ []) (0 ∷ 0 ∷ []) refl (one-row 0x40 0xFE 0 0 [] (omega arith) refl)
 
 -- example 12: 0B50 alone, refusal 2 at 2; table 0, 2, and what stands past it stays
 pub example12 : Figured (0x0B ∷ 0x50 ∷ []) 0 (7 ∷ 7 ∷ 9 ∷ []) (Forbids (FetchOutside 2)) (0 ∷ 2 ∷ 9 ∷ [])
-unfolding flowAt foundFlow goesFlow branchFlow decodedAt targetOf rowOf joined upwardOf reckonedOf askedOf verdictOf whyAt whyOf
+unfolding flowAt foundFlow goesFlow branchFlow decodedAt signedOf targetOf rowOf joined upwardOf reckonedOf askedOf verdictOf whyAt whyOf
 example12 = figured-fit (0x0B ∷ 0x50 ∷ []) (omega arith) 0 (7 ∷ 7 ∷ 9 ∷ []) (0 ∷ 2 ∷ 9 ∷ []) refl (one-row 0x0B 0x50 0 2 (9 ∷ []) (omega arith) refl)
 
 -- 4080: a branch back below 0 goes to a place above it, outside: refusal 2 there, and not 10
 pub wrapped : Figured (0x40 ∷ 0x80 ∷ []) 0 (7 ∷ 7 ∷ []) (Forbids (FetchOutside 16777090)) (0 ∷ 16777090 ∷ [])
-unfolding flowAt foundFlow goesFlow branchFlow decodedAt targetOf rowOf joined upwardOf reckonedOf askedOf verdictOf whyAt whyOf
+unfolding flowAt foundFlow goesFlow branchFlow decodedAt signedOf targetOf rowOf joined upwardOf reckonedOf askedOf verdictOf whyAt whyOf
 wrapped = figured-fit (0x40 ∷ 0x80 ∷ []) (omega arith) 0 (7 ∷ 7 ∷ []) (0 ∷ 16777090 ∷ []) refl (one-row 0x40 0x80 0 16777090 [] (omega arith) refl)
