@@ -40,7 +40,7 @@ pub struct Changes {
     pub condition: Condition,
 }
 
-// What an instruction changes, and how it went. (An enum may not hold the registers, which hold an array.)
+// What an instruction changes, and how it went.
 pub struct Deed {
     pub changes: Changes,
     pub outcome: Outcome,
