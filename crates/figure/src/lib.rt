@@ -52,7 +52,7 @@ fn look(len: usize, lent: usize, entry: u32) -> Asked
 fn row(rom: &[u8], table: &[u64], p: u32) -> Reckoned
     ensures { λ r. ⌜ r ≡ reckonedOf (length (now (rom .entry))) (now (table .entry)) p (flowAt (now (rom .entry)) p) ⌝ }
 {
-    let f = listing::flow_at(rom, p);
+    let f = listing::glance(rom, p);
     paths::reckon(rom.len(), table, p, f)
 }
 

@@ -8,6 +8,8 @@ use refusal::Refusal;
 ghost use mathlib.Core.Path.{_≡_};
 ghost use Rattle.codes.specs.declared.Decoded.the-variants.{Code};
 ghost use Rattle.paths.specs.declared.Flow.the-variants.{Next};
+ghost use Rattle.decoder.specs.MirrorWords.{row0, row1, row6, planOf};
+ghost use Rattle.listing.specs.MirrorGlance.{Told};
 ghost use Rattle.listing.specs.Listing.{branchFlow, jumpFlow, foundFlow, flowAt};
 
 fn branch(c: u8, next: u32, to: u32, s: u64) -> Flow
@@ -80,4 +82,92 @@ pub fn flow_at(rom: &[u8], p: u32) -> Flow
         Found::Cut => Flow::Stop(Refusal::CutShort(p)),
         Found::Unlisted => Flow::Stop(Refusal::UnknownCode(p)),
     }
+}
+
+// The states of a code of one word that goes on, by the lower digit of its first byte; 0 where the second byte counts too.
+fn told_by_0(lo: u8) -> u64
+    ensures { λ s. ⌜ Told s (row0 lo) ⌝ }
+{
+    match lo {
+        0x4 => 2,
+        0x5 => 2,
+        0x6 => 2,
+        0x7 => 2,
+        0x8 => 2,
+        0x9 => 2,
+        0xC => 2,
+        0xD => 2,
+        0xE => 2,
+        _ => 0,
+    }
+}
+
+fn told_by_1(lo: u8) -> u64
+    ensures { λ s. ⌜ Told s (row1 lo) ⌝ }
+{
+    match lo {
+        0x4 => 2,
+        0x5 => 2,
+        0x6 => 2,
+        0x8 => 2,
+        0x9 => 2,
+        0xC => 2,
+        0xD => 2,
+        0xE => 2,
+        _ => 0,
+    }
+}
+
+fn told_by_6(lo: u8) -> u64
+    ensures { λ s. ⌜ Told s (row6 lo) ⌝ }
+{
+    match lo {
+        0x4 => 2,
+        0x5 => 2,
+        0x6 => 2,
+        0x8 => 4,
+        0x9 => 4,
+        0xC => 6,
+        0xD => 6,
+        _ => 0,
+    }
+}
+
+fn told_by(a: u8) -> u64
+    ensures { λ s. ⌜ Told s (planOf a) ⌝ }
+{
+    match a / 16 {
+        0x0 => told_by_0(a % 16),
+        0x1 => told_by_1(a % 16),
+        0x2 => 4,
+        0x3 => 4,
+        0x4 => 0,
+        0x5 => 0,
+        0x6 => told_by_6(a % 16),
+        0x7 => 0,
+        _ => 2,
+    }
+}
+
+// `flow_at`, for whoever looks at place after place: a short branch, and most codes of one word, need no decoding.
+pub fn glance(rom: &[u8], p: u32) -> Flow
+    ensures { λ r. ⌜ r ≡ flowAt (now (rom .entry)) p ⌝ }
+{
+    let at = p as usize;
+    if rom.len() <= at {
+        return flow_at(rom, p);
+    }
+    if rom.len() - at < 2 {
+        return flow_at(rom, p);
+    }
+    let a = rom[at];
+    let next = flow::next(p, 2);
+    if a / 16 == 4 {
+        return branch(a % 16, next, flow::target(next, Reach::Near(rom[at + 1])), 4);
+    }
+    let s = told_by(a);
+    if s == 0 {
+        return flow_at(rom, p);
+    }
+    Flow::Next(next, s)
 }

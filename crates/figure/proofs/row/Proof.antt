@@ -6,4 +6,4 @@ pub row-spec : {M : Type 1} → statement M
 row-spec =
     tie.close
     (tie.spec (λ c κs. search needs) (λ c κs. search needs)
-    (λ c. rw (← c .before .flow-at .ensures) (c .reckon .ensures)))
+    (λ c. rw (← c .before .glance .ensures) (c .reckon .ensures)))
