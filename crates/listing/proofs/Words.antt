@@ -28,7 +28,7 @@ use Rattle.listing.specs.MirrorGlance.{Tells}
 
 -- a load and a store tell the same
 pub either-way : (s b : ℕ) (plan : Dir → ℕ → Plan) → Tells s (plan Load (b / 16)) → Tells s (plan Store (b / 16 - 8))
-  → Tells s (pick (ltb b 128) (plan Load (b / 16)) (plan Store (b / 16 - 8)))
+    → Tells s (pick (ltb b 128) (plan Load (b / 16)) (plan Store (b / 16 - 8)))
 either-way s b plan u v = go (ltb b 128)
   where
     go : (t : Bool) → Tells s (pick t (plan Load (b / 16)) (plan Store (b / 16 - 8)))
@@ -45,17 +45,17 @@ found-word s i h n e =
 -- the place p has a word, which is the whole code i
 module _ (rom : List ℕ) (p : ℕ) (in-rom : p < length rom) (has-word : 2 ≤ length rom - p) where
   word-flow : (i : Instruction) → (getD rom p 0 ≡ 1 → ⊥) → planOf (getD rom p 0) (getD rom (p + 1) 0) ≡ Whole i
-    → goesFlow p (nextOf p 2) (statesOf i) (goesOf i) ≡ flowAt rom p
+      → goesFlow p (nextOf p 2) (statesOf i) (goesOf i) ≡ flowAt rom p
   unfolding flowAt foundFlow decodedAt
   word-flow i n e =
       let first = getD-drop p rom 0 0 ∙ ap (λ (k : ℕ). getD rom k 0) (plus-zero p) in
       let second = getD-drop p rom 1 0 in
       let found =
-          found-word (drop p rom) i (subst (λ (k : ℕ). 2 ≤ k) (sym (length-drop p rom)) has-word) (λ z. n (sym first ∙ z)) (ap₂ planOf first second ∙ e) in
+      found-word (drop p rom) i (subst (λ (k : ℕ). 2 ≤ k) (sym (length-drop p rom)) has-word) (λ z. n (sym first ∙ z)) (ap₂ planOf first second ∙ e) in
       sym (rw (lt-leb (length rom) p in-rom) (ap (λ (f : Found). foundFlow p (placedOf p f)) found))
 
   pub branch-word : getD rom p 0 / 16 ≡ 4
-    → branchFlow (getD rom p 0 % 16) (nextOf p 2) (targetOf (nextOf p 2) (Near (getD rom (p + 1) 0))) 4 ≡ flowAt rom p
+      → branchFlow (getD rom p 0 % 16) (nextOf p 2) (targetOf (nextOf p 2) (Near (getD rom (p + 1) 0))) 4 ≡ flowAt rom p
   unfolding goesFlow
   branch-word e =
       word-flow (Bcc (getD rom p 0 % 16) (Near (getD rom (p + 1) 0))) (λ z. absurd (omega (arith, e, z))) (rw e)

@@ -163,7 +163,12 @@ pub fn glance(rom: &[u8], p: u32) -> Flow
     let a = rom[at];
     let next = flow::next(p, 2);
     if a / 16 == 4 {
-        return branch(a % 16, next, flow::target(next, Reach::Near(rom[at + 1])), 4);
+        return branch(
+            a % 16,
+            next,
+            flow::target(next, Reach::Near(rom[at + 1])),
+            4,
+        );
     }
     let s = told_by(a);
     if s == 0 {

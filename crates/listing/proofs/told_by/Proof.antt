@@ -10,7 +10,7 @@ told-by-spec =
     tie.close
     (tie.spec (λ c κs. search needs) (λ c κs. search needs) (λ c κs. search needs)
     (λ c. rw (c .before .match .keys1) (c .told-by-0 .ensures)) (λ c. rw (c .before .match .keys2) (c .told-by-1 .ensures))
-    (λ c. inr (λ b. rw (c .match .keys3) (refl , refl))) (λ c. inr (λ b. rw (c .match .keys4) (refl , refl)))
+    (λ c. inr (λ b. rw (c .match .keys3) (refl, refl))) (λ c. inr (λ b. rw (c .match .keys4) (refl, refl)))
     (λ c. inl refl) (λ c. inl refl)
     (λ c. rw (c .before .match .keys7) (c .told-by-6 .ensures))
     (λ c. inl refl)
@@ -23,4 +23,4 @@ told-by-spec =
       ne-eqb _ _ (r .0 .0 .1),
       ne-eqb _ _ (r .0 .1),
       ne-eqb _ _ (r .1),
-    ) (refl , refl))))
+    ) (refl, refl))))
