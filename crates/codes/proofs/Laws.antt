@@ -1,4 +1,4 @@
--- Laws over the code list and the states, for callers: every code has 2, 4, 6 or 8 bytes, each below 256; an instruction takes 2 to 12 states.
+-- Laws over the code list and the states, for callers: every code has 2, 4, 6 or 8 bytes, each below 256; an instruction takes 2 to 24 states.
 use Prim.Native.Nat.{ℕ, zero, suc, _-_, _%_, _≤_, _<_}
 use mathlib.Core.Path.{_≡_}
 use mathlib.Core.List.{List, [], _∷_}
@@ -6,18 +6,18 @@ use native.Mathlib.Omega.{arith}
 use lib.ListN.{length, getD, take, drop, length-drop}
 use lib.Seq.{take-all}
 use Rattle.codes.specs.Names.{Width, Byte, Word, Long, Op, Add, Sub, Cmp, Mov, Addx, Subx, Or, Xor, And, Source, Reg, Imm, Way, Up, Down, By, One, Two, Four}
-use Rattle.codes.specs.Names.{Turn, Shll, Shlr, Rotxl, Rotxr, Shal, Shar, Rotl, Rotr, Single, Not, Neg, Extu, Exts, Change, Orc, Xorc, Andc, Ldc}
+use Rattle.codes.specs.Names.{Turn, Shll, Shlr, Rotxl, Rotxr, Shal, Shar, Rotl, Rotr, Single, Not, Neg, Extu, Exts, Half, Eight, Sixteen, Sign, Unsigned, Signed, Change, Orc, Xorc, Andc, Ldc}
 use Rattle.codes.specs.Names.{Dir, Load, Store, Place, At, Step, Disp, Abs8, Abs16, Abs24, Reach, Near, Far, Target, ByReg, Direct, Vector}
-use Rattle.codes.specs.Names.{Instruction, Nop, Stc, LdcReg, Ccr, Alu, IncDec, AddsSubs, Decimal, Shift, Unary, Move, Bcc, Jmp, Bsr, Jsr, Rts}
+use Rattle.codes.specs.Names.{Instruction, Nop, Stc, LdcReg, Ccr, Alu, IncDec, AddsSubs, Decimal, Shift, Unary, Multiply, Divide, Move, Bcc, Jmp, Bsr, Jsr, Rts}
 use Rattle.codes.specs.Code.{codeOf, lengthOf, changeCode, regCode, wayDigit, addsDigit, wordDigit, longDigit, digit013, digit89B, extuDigit, extsDigit, firstDigit, nextDigit, dirDigit, abs8Digit}
 use Rattle.codes.specs.Valid.{Valid, Digit}
-use Rattle.codes.specs.States.{statesOf, longStates, moveStates}
+use Rattle.codes.specs.States.{statesOf, longStates, moveStates, productStates}
 use Rattle.codes.specs.Exact.{Bytes}
 
 -- ---- the states of an instruction
 
 abbrev Few : ℕ → Type 0
-Few n = (2 ≤ n) × (n ≤ 12)
+Few n = (2 ≤ n) × (n ≤ 24)
 
 long-few : (op : Op) → Few (longStates op)
 long-few Add = omega arith
@@ -50,7 +50,13 @@ move-few Long (Abs8 a) = omega arith
 move-few Long (Abs16 a) = omega arith
 move-few Long (Abs24 a) = omega arith
 
-pub states-range : (i : Instruction) → (2 ≤ statesOf i) × (statesOf i ≤ 12)
+product-few : (sign : Sign) (h : Half) → Few (productStates sign h)
+product-few Unsigned Eight = omega arith
+product-few Unsigned Sixteen = omega arith
+product-few Signed Eight = omega arith
+product-few Signed Sixteen = omega arith
+
+pub states-range : (i : Instruction) → (2 ≤ statesOf i) × (statesOf i ≤ 24)
 states-range Nop = omega arith
 states-range (Stc r) = omega arith
 states-range (LdcReg r) = omega arith
@@ -66,6 +72,8 @@ states-range (AddsSubs way by e) = omega arith
 states-range (Decimal way r) = omega arith
 states-range (Shift turn w r) = omega arith
 states-range (Unary single w r) = omega arith
+states-range (Multiply sign h s d) = product-few sign h
+states-range (Divide sign h s d) = product-few sign h
 states-range (Move dir w p r) = move-few w p
 states-range (Bcc c (Near d)) = omega arith
 states-range (Bcc c (Far d)) = omega arith
@@ -214,6 +222,18 @@ unary-formed Neg w r v = omega (arith, high-small w, digit-small w r v)
 unary-formed Extu w r v = omega (arith, extu-small w, digit-small w r v)
 unary-formed Exts w r v = omega (arith, exts-small w, digit-small w r v)
 
+multiply-formed : (sign : Sign) (h : Half) (s d : ℕ) → Valid (Multiply sign h s d) → Formed (codeOf (Multiply sign h s d))
+multiply-formed Unsigned Eight s d v = omega arith
+multiply-formed Unsigned Sixteen s d v = omega arith
+multiply-formed Signed Eight s d v = omega arith
+multiply-formed Signed Sixteen s d v = omega arith
+
+divide-formed : (sign : Sign) (h : Half) (s d : ℕ) → Valid (Divide sign h s d) → Formed (codeOf (Divide sign h s d))
+divide-formed Unsigned Eight s d v = omega arith
+divide-formed Unsigned Sixteen s d v = omega arith
+divide-formed Signed Eight s d v = omega arith
+divide-formed Signed Sixteen s d v = omega arith
+
 move-formed : (dir : Dir) (w : Width) (p : Place) (r : ℕ) → Valid (Move dir w p r) → Formed (codeOf (Move dir w p r))
 move-formed dir Byte (At e) r v = omega (arith, dir-small dir)
 move-formed dir Byte (Step e) r v = omega (arith, dir-small dir)
@@ -250,6 +270,8 @@ formed (AddsSubs way by e) v = omega (arith, way-small way, adds-small by)
 formed (Decimal way r) v = omega (arith, way-small way)
 formed (Shift turn w r) v = shift-formed turn w r v
 formed (Unary single w r) v = unary-formed single w r (v .1)
+formed (Multiply sign h s d) v = multiply-formed sign h s d v
+formed (Divide sign h s d) v = divide-formed sign h s d v
 formed (Move dir w p r) v = move-formed dir w p r v
 formed (Bcc c (Near d)) v = omega arith
 formed (Bcc c (Far d)) v = omega arith

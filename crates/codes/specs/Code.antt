@@ -5,9 +5,9 @@ use Prim.Native.Nat.{ℕ, _+_, _*_, _/_, _%_}
 use mathlib.Core.List.{List, [], _∷_}
 use lib.ListN.{length}
 use Rattle.codes.specs.Names.{Width, Byte, Word, Long, Op, Add, Sub, Cmp, Mov, Addx, Subx, Or, Xor, And, Reg, Imm, Way, Up, Down, By, One, Two, Four}
-use Rattle.codes.specs.Names.{Turn, Shll, Shlr, Rotxl, Rotxr, Shal, Shar, Rotl, Rotr, Single, Not, Neg, Extu, Exts, Change, Orc, Xorc, Andc, Ldc}
+use Rattle.codes.specs.Names.{Turn, Shll, Shlr, Rotxl, Rotxr, Shal, Shar, Rotl, Rotr, Single, Not, Neg, Extu, Exts, Half, Eight, Sixteen, Sign, Unsigned, Signed, Change, Orc, Xorc, Andc, Ldc}
 use Rattle.codes.specs.Names.{Dir, Load, Store, Place, At, Step, Disp, Abs8, Abs16, Abs24, Reach, Near, Far, Target, ByReg, Direct, Vector}
-use Rattle.codes.specs.Names.{Instruction, Nop, Stc, LdcReg, Ccr, Alu, IncDec, AddsSubs, Decimal, Shift, Unary, Move, Bcc, Jmp, Bsr, Jsr, Rts}
+use Rattle.codes.specs.Names.{Instruction, Nop, Stc, LdcReg, Ccr, Alu, IncDec, AddsSubs, Decimal, Shift, Unary, Multiply, Divide, Move, Bcc, Jmp, Bsr, Jsr, Rts}
 
 infixl 90 _·_
 -- the byte of two digits
@@ -144,6 +144,24 @@ unaryCode Neg w r = word 0x17 (digit89B w · r)
 unaryCode Extu w r = word 0x17 (extuDigit w · r)
 unaryCode Exts w r = word 0x17 (extsDigit w · r)
 
+-- document 02, W1: MULXU 50rr byte, 52re word; DIVXU 51rr, 53re; MULXS 01C0 before the MULXU code, DIVXS 01D0 before the DIVXU code
+-- 002: MULXU 2647, 2665; DIVXU 2017, 2038; MULXS 2607, 2627; DIVXS 1908, 1924
+abbrev pub unsignedMultiply : Half → ℕ
+unsignedMultiply Eight = 0x50
+unsignedMultiply Sixteen = 0x52
+
+abbrev pub unsignedDivide : Half → ℕ
+unsignedDivide Eight = 0x51
+unsignedDivide Sixteen = 0x53
+
+abbrev pub multiplyCode : Sign → Half → ℕ → ℕ → List ℕ
+multiplyCode Unsigned h s d = word (unsignedMultiply h) (s · d)
+multiplyCode Signed h s d = 0x01 ∷ 0xC0 ∷ word (unsignedMultiply h) (s · d)
+
+abbrev pub divideCode : Sign → Half → ℕ → ℕ → List ℕ
+divideCode Unsigned h s d = word (unsignedDivide h) (s · d)
+divideCode Signed h s d = 0x01 ∷ 0xD0 ∷ word (unsignedDivide h) (s · d)
+
 -- "Immediate byte, first digit 8 to F: ADD, ADDX, CMP, SUBX, OR, XOR, AND, MOV. 79 word and 7A long, next digit 0 to 6: MOV, ADD, CMP, SUB, OR,
 -- XOR, AND"
 -- 002: byte 1201, 1270, 1744, 3447, 2792, 3486, 1287, 2390; word 2425, 1218, 1761, 3395, 2809, 3503, 1304; long 2454, 1235, 1778, 3412, 2826,
@@ -239,6 +257,8 @@ codeOf (AddsSubs way by e) = addsSubsCode way by e
 codeOf (Decimal way r) = decimalCode way r
 codeOf (Shift turn w r) = shiftCode turn w r
 codeOf (Unary single w r) = unaryCode single w r
+codeOf (Multiply sign h s d) = multiplyCode sign h s d
+codeOf (Divide sign h s d) = divideCode sign h s d
 codeOf (Alu op w (Imm v) d) = immCode op w v d
 codeOf (Move dir w p r) = moveCode dir w p r
 codeOf (Bcc c reach) = bccCode c reach

@@ -3,8 +3,9 @@
 -- What is not valid has a number here too, that of its neighbours; no promise rests on it.
 use Prim.Native.Nat.{ℕ}
 use Rattle.codes.specs.Names.{Width, Byte, Word, Long, Op, Add, Sub, Cmp, Mov, Addx, Subx, Or, Xor, And, Source, Reg, Imm}
+use Rattle.codes.specs.Names.{Half, Eight, Sixteen, Sign, Unsigned, Signed}
 use Rattle.codes.specs.Names.{Place, At, Step, Disp, Abs8, Abs16, Abs24, Reach, Near, Far, Target, ByReg, Direct, Vector}
-use Rattle.codes.specs.Names.{Instruction, Nop, Stc, LdcReg, Ccr, Alu, IncDec, AddsSubs, Decimal, Shift, Unary, Move, Bcc, Jmp, Bsr, Jsr, Rts}
+use Rattle.codes.specs.Names.{Instruction, Nop, Stc, LdcReg, Ccr, Alu, IncDec, AddsSubs, Decimal, Shift, Unary, Multiply, Divide, Move, Bcc, Jmp, Bsr, Jsr, Rts}
 use Rattle.codes.specs.Names.{Goes, Onward, Branches, Jumps, CallsNear, Calls, Returns}
 
 -- register to register: 2; a long OR, XOR, AND: 4
@@ -75,6 +76,19 @@ abbrev pub aluStates : Op → Width → Source → ℕ
 aluStates op w (Reg s) = regStates op w
 aluStates op w (Imm v) = immStates w
 
+-- document 02, W1: MULXU and DIVXU 14 byte, 22 word; MULXS and DIVXS 16 and 24
+abbrev pub unsignedStates : Half → ℕ
+unsignedStates Eight = 14
+unsignedStates Sixteen = 22
+
+abbrev pub signedStates : Half → ℕ
+signedStates Eight = 16
+signedStates Sixteen = 24
+
+abbrev pub productStates : Sign → Half → ℕ
+productStates Unsigned h = unsignedStates h
+productStates Signed h = signedStates h
+
 abbrev pub statesOf : Instruction → ℕ
 statesOf Nop = 2
 statesOf (Stc r) = 2
@@ -86,6 +100,8 @@ statesOf (AddsSubs way by e) = 2
 statesOf (Decimal way r) = 2
 statesOf (Shift turn w r) = 2
 statesOf (Unary single w r) = 2
+statesOf (Multiply sign h s d) = productStates sign h
+statesOf (Divide sign h s d) = productStates sign h
 statesOf (Move dir w p r) = moveStates w p
 statesOf (Bcc c reach) = bccStates reach
 statesOf (Jmp target) = jmpStates target
@@ -105,6 +121,8 @@ goesOf (AddsSubs way by e) = Onward
 goesOf (Decimal way r) = Onward
 goesOf (Shift turn w r) = Onward
 goesOf (Unary single w r) = Onward
+goesOf (Multiply sign h s d) = Onward
+goesOf (Divide sign h s d) = Onward
 goesOf (Move dir w p r) = Onward
 goesOf (Bcc c reach) = Branches c reach
 goesOf (Jmp target) = Jumps target

@@ -1,6 +1,7 @@
 // An instruction: a choice among document 01's groups, each with its own operand choice. A register is a digit of the code.
 ghost use mathlib.Core.Path.{_≡_};
-ghost use Rattle.codes.specs.States.{longStates, regStates, immStates, aluStates, shortMoveStates, longMoveStates, moveStates, bccStates, jmpStates, bsrStates, jsrStates, statesOf, goesOf};
+ghost use Rattle.codes.specs.States.{longStates, regStates, immStates, aluStates, shortMoveStates, longMoveStates, moveStates, bccStates, jmpStates, bsrStates, jsrStates, unsignedStates, signedStates, productStates, statesOf};
+use arith::Half;
 use arith::Width;
 use refusal::Refusal;
 
@@ -52,6 +53,12 @@ pub enum Single {
     Exts,
 }
 
+// MULXU and DIVXU, or MULXS and DIVXS.
+pub enum Sign {
+    Unsigned,
+    Signed,
+}
+
 // What is done to the condition byte with an immediate byte.
 pub enum Change {
     Orc,
@@ -100,6 +107,9 @@ pub enum Instruction {
     Decimal(Way, u8),
     Shift(Turn, Width, u8),
     Unary(Single, Width, u8),
+    // the source, then the destination
+    Multiply(Sign, Half, u8, u8),
+    Divide(Sign, Half, u8, u8),
     Move(Dir, Width, Place, u8),
     // the condition's digit, and where to
     Bcc(u8, Reach),
@@ -250,6 +260,33 @@ pub fn jsr_states(target: Target) -> u32
     }
 }
 
+fn unsigned_states(h: Half) -> u32
+    ensures { λ r. ⌜ r ≡ unsignedStates h ⌝ }
+{
+    match h {
+        Half::Eight => 14,
+        Half::Sixteen => 22,
+    }
+}
+
+fn signed_states(h: Half) -> u32
+    ensures { λ r. ⌜ r ≡ signedStates h ⌝ }
+{
+    match h {
+        Half::Eight => 16,
+        Half::Sixteen => 24,
+    }
+}
+
+pub fn product_states(sign: Sign, h: Half) -> u32
+    ensures { λ r. ⌜ r ≡ productStates sign h ⌝ }
+{
+    match sign {
+        Sign::Unsigned => unsigned_states(h),
+        Sign::Signed => signed_states(h),
+    }
+}
+
 // The states of an instruction, all memory on chip.
 pub fn states(i: Instruction) -> u32
     ensures { λ r. ⌜ r ≡ statesOf i ⌝ }
@@ -265,35 +302,13 @@ pub fn states(i: Instruction) -> u32
         Instruction::Decimal(_, _) => 2,
         Instruction::Shift(_, _, _) => 2,
         Instruction::Unary(_, _, _) => 2,
+        Instruction::Multiply(sign, h, _, _) => product_states(sign, h),
+        Instruction::Divide(sign, h, _, _) => product_states(sign, h),
         Instruction::Move(_, w, p, _) => move_states(w, p),
         Instruction::Bcc(_, reach) => bcc_states(reach),
         Instruction::Jmp(target) => jmp_states(target),
         Instruction::Bsr(reach) => bsr_states(reach),
         Instruction::Jsr(target) => jsr_states(target),
         Instruction::Rts => 10,
-    }
-}
-
-// Where an instruction lets PC go.
-pub fn goes_to(i: Instruction) -> Goes
-    ensures { λ r. ⌜ r ≡ goesOf i ⌝ }
-{
-    match i {
-        Instruction::Nop => Goes::Onward,
-        Instruction::Stc(_) => Goes::Onward,
-        Instruction::LdcReg(_) => Goes::Onward,
-        Instruction::Ccr(_, _) => Goes::Onward,
-        Instruction::Alu(_, _, _, _) => Goes::Onward,
-        Instruction::IncDec(_, _, _, _) => Goes::Onward,
-        Instruction::AddsSubs(_, _, _) => Goes::Onward,
-        Instruction::Decimal(_, _) => Goes::Onward,
-        Instruction::Shift(_, _, _) => Goes::Onward,
-        Instruction::Unary(_, _, _) => Goes::Onward,
-        Instruction::Move(_, _, _, _) => Goes::Onward,
-        Instruction::Bcc(c, reach) => Goes::Branches(c, reach),
-        Instruction::Jmp(target) => Goes::Jumps(target),
-        Instruction::Bsr(reach) => Goes::CallsNear(reach),
-        Instruction::Jsr(target) => Goes::Calls(target),
-        Instruction::Rts => Goes::Returns,
     }
 }

@@ -40,8 +40,7 @@ fn onward(next: u32, s: u32) -> Flow
     Flow::Next(next, s as u64)
 }
 
-// An instruction of n bytes at p. Its parts are looked at here, where the decoder has left them: to hand them on whole to
-// `codes::states` and `codes::goes_to` is to copy them.
+// An instruction of n bytes at p. Its parts are looked at here, where the decoder has left them: to hand them on whole is to copy them.
 fn found(p: u32, i: Instruction, n: usize) -> Flow
     ensures { λ r. ⌜ r ≡ foundFlow p (Code i n) ⌝ }
 {

@@ -1,7 +1,7 @@
--- Document 01, "Refusal numbers": the number of each refusal, and the place given with it.
+-- Document 01, "Refusal numbers", and document 02: the number of each refusal, and the place given with it.
 use Prim.Native.Nat.{ℕ}
 use Rattle.refusal.specs.declared.Refusal.{Refusal}
-use Rattle.refusal.specs.declared.Refusal.the-variants.{BadBoard, FetchOutside, UnknownCode, CutShort, ReadOutside, WriteOutside, NoAdjustRow, BadEntry, NotFollowed, NotUpward, NotInstruction, BudgetTooLarge, LentTooShort}
+use Rattle.refusal.specs.declared.Refusal.the-variants.{BadBoard, FetchOutside, UnknownCode, CutShort, ReadOutside, WriteOutside, NoAdjustRow, BadEntry, NotFollowed, NotUpward, NotInstruction, BudgetTooLarge, LentTooShort, DivideFails}
 
 abbrev pub numberOf : Refusal → ℕ
 numberOf BadBoard = 1  -- board wrong, or PC odd or at least 2^24
@@ -17,6 +17,7 @@ numberOf (NotUpward p) = 10  -- forbidden place: a path to a target not above it
 numberOf NotInstruction = 11  -- a field out of range
 numberOf BudgetTooLarge = 12  -- budget over 1,000,000
 numberOf (LentTooShort n) = 13  -- lent output or table too short
+numberOf (DivideFails p) = 14  -- a zero divisor, or a quotient that does not fit (document 02, W1)
 
 abbrev pub placeOf : Refusal → ℕ
 placeOf BadBoard = 0
@@ -32,3 +33,4 @@ placeOf (NotUpward p) = p  -- that place
 placeOf NotInstruction = 0
 placeOf BudgetTooLarge = 0
 placeOf (LentTooShort n) = n  -- needed length
+placeOf (DivideFails p) = p  -- instruction

@@ -17,6 +17,7 @@ pub enum Refusal {
     NotInstruction,
     BudgetTooLarge,
     LentTooShort(u32),
+    DivideFails(u32),
 }
 
 impl Refusal {
@@ -37,6 +38,7 @@ impl Refusal {
             Refusal::NotInstruction => 11,
             Refusal::BudgetTooLarge => 12,
             Refusal::LentTooShort(_) => 13,
+            Refusal::DivideFails(_) => 14,
         }
     }
 
@@ -58,6 +60,7 @@ impl Refusal {
             Refusal::NotInstruction => 0,
             Refusal::BudgetTooLarge => 0,
             Refusal::LentTooShort(n) => n,
+            Refusal::DivideFails(p) => p,
         }
     }
 }
