@@ -4,4 +4,3 @@ pub mod Logic
 pub mod Shifts
 pub mod Decimal
 pub mod Powers
-pub mod Products

@@ -13,8 +13,8 @@ pub use Rattle.codes.specs.declared.Turn.{Turn}
 pub use Rattle.codes.specs.declared.Turn.the-variants.{Shll, Shlr, Rotxl, Rotxr, Shal, Shar, Rotl, Rotr}
 pub use Rattle.codes.specs.declared.Single.{Single}
 pub use Rattle.codes.specs.declared.Single.the-variants.{Not, Neg, Extu, Exts}
-pub use Rattle.arith.specs.declared.Half.{Half}
-pub use Rattle.arith.specs.declared.Half.the-variants.{Eight, Sixteen}
+pub use Rattle.products.specs.declared.Half.{Half}
+pub use Rattle.products.specs.declared.Half.the-variants.{Eight, Sixteen}
 pub use Rattle.codes.specs.declared.Sign.{Sign}
 pub use Rattle.codes.specs.declared.Sign.the-variants.{Unsigned, Signed}
 pub use Rattle.codes.specs.declared.Change.{Change}

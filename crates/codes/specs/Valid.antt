@@ -2,7 +2,7 @@
 -- Document 01, "Codes": "r is a register digit, e a digit 0 to 7 (its top bit zero in the code)".
 use Prim.Native.Nat.{ℕ, _<_}
 use Rattle.codes.specs.Names.{Width, Byte, Word, Long, Op, Add, Sub, Cmp, Mov, Addx, Subx, Or, Xor, And, Reg, Imm, By, One, Two, Four, Single, Not, Neg, Extu, Exts}
-use Rattle.arith.specs.Products.{halfOf, wholeOf}
+use Rattle.products.specs.Products.{factorWidth, productWidth}
 use Rattle.codes.specs.Names.{Place, At, Step, Disp, Abs8, Abs16, Abs24, Reach, Near, Far, Target, ByReg, Direct, Vector}
 use Rattle.codes.specs.Names.{Instruction, Nop, Stc, LdcReg, Ccr, Alu, IncDec, AddsSubs, Decimal, Shift, Unary, Multiply, Divide, Move, Bcc, Jmp, Bsr, Jsr, Rts}
 
@@ -94,8 +94,8 @@ Valid (AddsSubs way by e) = e < 8
 Valid (Decimal way r) = r < 16
 Valid (Shift turn w r) = Digit w r
 Valid (Unary single w r) = HasUnary single w × Digit w r
-Valid (Multiply sign h s d) = Digit (halfOf h) s × Digit (wholeOf h) d
-Valid (Divide sign h s d) = Digit (halfOf h) s × Digit (wholeOf h) d
+Valid (Multiply sign h s d) = Digit (factorWidth h) s × Digit (productWidth h) d
+Valid (Divide sign h s d) = Digit (factorWidth h) s × Digit (productWidth h) d
 Valid (Alu op w (Imm v) d) = HasImm op w × Number w v × Digit w d
 Valid (Move dir w p r) = HasPlace w p × Digit w r
 Valid (Bcc c reach) = (c < 16) × HasReach reach

@@ -1,8 +1,8 @@
 // An instruction: a choice among document 01's groups, each with its own operand choice. A register is a digit of the code.
 ghost use mathlib.Core.Path.{_≡_};
 ghost use Rattle.codes.specs.States.{longStates, regStates, immStates, aluStates, shortMoveStates, longMoveStates, moveStates, bccStates, jmpStates, bsrStates, jsrStates, unsignedStates, signedStates, productStates, statesOf};
-use arith::Half;
 use arith::Width;
+use products::Half;
 use refusal::Refusal;
 
 // ADD to AND, with a register or the code itself as the source.

@@ -49,3 +49,7 @@ withMoved f s = record { i = f .i; ui = f .ui; h = f .h; u = f .u; n = s .n; z =
 -- DAA, DAS: N and Z of the result, C of the row; H and V stay (house rule)
 abbrev pub withAdjusted : Condition → Moved → Bool → Condition
 withAdjusted f s c = record { i = f .i; ui = f .ui; h = f .h; u = f .u; n = s .n; z = s .z; v = f .v; c = c }
+
+-- MULXS, DIVXU, DIVXS: N and Z as found; H, V and C stay (002:2593, 2002, 1892)
+abbrev pub withProduct : Condition → Moved → Condition
+withProduct f s = record { i = f .i; ui = f .ui; h = f .h; u = f .u; n = s .n; z = s .z; v = f .v; c = f .c }

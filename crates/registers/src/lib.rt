@@ -6,7 +6,7 @@ use arith::Sum;
 use arith::Width;
 ghost use mathlib.Core.Path.{_≡_};
 ghost use Prim.Native.Nat.{_/_, _*_, _%_};
-ghost use Rattle.registers.specs.Condition.{conditionOf, byteOf, withSum, withExtended, withCounted, withShifted, withMoved, withAdjusted};
+ghost use Rattle.registers.specs.Condition.{conditionOf, byteOf, withSum, withExtended, withCounted, withShifted, withMoved, withAdjusted, withProduct};
 ghost use Rattle.registers.specs.Parts.{Below, belowOf, partOf, insertOf, withPart, withCondition, pcOf, withPc};
 
 // The condition byte as its eight bits: each change of flags is then a record, and "the others stay" can be seen.
@@ -155,6 +155,21 @@ impl Condition {
             z: s.z,
             v: self.v,
             c: c,
+        }
+    }
+
+    pub fn with_product(self, s: Moved) -> Condition
+        ensures { λ r. ⌜ r ≡ withProduct self s ⌝ }
+    {
+        Condition {
+            i: self.i,
+            ui: self.ui,
+            h: self.h,
+            u: self.u,
+            n: s.n,
+            z: s.z,
+            v: self.v,
+            c: self.c,
         }
     }
 }
