@@ -48,9 +48,6 @@ use Rattle.paths.proofs.Sound.{Stepped, back-home, went, by-data, OneStep}
 use Rattle.listing.specs.Listing.{branchFlow, jumpFlow, goesFlow, foundFlow, decodedAt, flowAt}
 use Rattle.step.specs.Processor.{State, processor}
 
-five-six-seven : (n : ℕ) → 5 ≤ n → n ≤ 7 → (n ≡ 5) ⊎ (n ≡ 6) ⊎ (n ≡ 7)
-five-six-seven n l m = ⊎-elim (λ (h : n ≤ 5). inl (omega arith)) (λ (h : 5 < n). inr (⊎-elim (λ (k : n ≤ 6). inl (omega arith)) (λ (k : 6 < n). inr (omega arith)) (le-or n 6))) (le-or n 5)
-
 -- an even address below 2^24 is what PC holds when it is set to it
 place-stays : (p : ℕ) → p % 2 ≡ 0 → p < 16777216 → p % 2 ^ 24 / 2 * 2 ≡ p
 place-stays p e l = omega arith
@@ -166,7 +163,7 @@ module _ (b : Board) (rom : List ℕ) (bytes : Bytes rom) where
       unfolding flowAt foundFlow decodedAt
       come a (outside l) e = absurd (free (FetchOutside pc) (rw (le-leb (length rom) pc (ltb-false pc (length rom) l))))
       come a (no-code f l d) e = absurd (free f (rw (lt-leb (length rom) pc (ltb-true pc (length rom) l), d)))
-      come a (Laws.by-data i n f l d k) e = by-data e (five-six-seven (numberOf f) (k .least) (k .most))
+      come a (Laws.by-data i n f l d k) e = by-data e k
       come a (completes i n p q m l d g e′ k h) e = completed i n (ltb-true pc (length rom) l) d z p q m k kept free e (goesOf i) refl g
 
       pub goes-where : Stepped (processor b rom) Kept (flowAt rom pc) s

@@ -56,6 +56,8 @@ fn found(p: u32, i: Instruction, n: usize) -> Flow
         Instruction::Decimal(_, _) => onward(next, 2),
         Instruction::Shift(_, _, _) => onward(next, 2),
         Instruction::Unary(_, _, _) => onward(next, 2),
+        Instruction::Multiply(sign, h, _, _) => onward(next, codes::product_states(sign, h)),
+        Instruction::Divide(sign, h, _, _) => onward(next, codes::product_states(sign, h)),
         Instruction::Move(_, w, place, _) => onward(next, codes::move_states(w, place)),
         Instruction::Bcc(c, reach) => match reach {
             Reach::Near(d) => branch(c, next, flow::target(next, Reach::Near(d)), 4),

@@ -1,10 +1,11 @@
 -- An instruction as the maker's assembler writes it: document 002, section 2.2, the assembler format of each page.
 use Prim.Native.Nat.{ℕ}
 use mathlib.Core.List.{List, _++_}
-use Rattle.mnemonics.specs.Parts.{Width, Byte, Op, Source, Way, By, Turn, Single, Change, Dir, Load, Store, Place, Reach, Target, Instruction, Nop, Stc, LdcReg, Ccr, Alu, IncDec, AddsSubs, Decimal, Shift, Unary, Move, Bcc, Jmp, Bsr, Jsr, Rts}
+use Rattle.mnemonics.specs.Parts.{Width, Byte, Op, Source, Way, By, Turn, Single, Half, Sign, Change, Dir, Load, Store, Place, Reach, Target, Instruction, Nop, Stc, LdcReg, Ccr, Alu, IncDec, AddsSubs, Decimal, Shift, Unary, Multiply, Divide, Move, Bcc, Jmp, Bsr, Jsr, Rts}
+use Rattle.products.specs.Products.{factorWidth, productWidth}
 use Rattle.flow.specs.Targets.{targetOf}
 use Rattle.text.specs.Lines.{ascii}
-use Rattle.mnemonics.specs.Names.{byteReg, longReg, regOf, markOf, opName, opMark, wayName, addsName, decimalName, turnName, singleName, changeName, byOf, branchName}
+use Rattle.mnemonics.specs.Names.{byteReg, longReg, regOf, markOf, opName, opMark, wayName, multiplyName, divideName, addsName, decimalName, turnName, singleName, changeName, byOf, branchName}
 use Rattle.mnemonics.specs.Operands.{immediateOf, sourceOf, countOf, placeText, reachOf, targetText}
 
 abbrev pub stcText : ℕ → List ℕ
@@ -36,6 +37,16 @@ shiftText turn w d = turnName turn ++ (markOf w ++ (ascii " " ++ regOf w d))
 
 abbrev pub unaryText : Single → Width → ℕ → List ℕ
 unaryText single w d = singleName single ++ (markOf w ++ (ascii " " ++ regOf w d))
+
+-- MULXU, MULXS, DIVXU, DIVXS behind their names: the source of half the bits, then the destination
+abbrev pub productText : Half → ℕ → ℕ → List ℕ
+productText h s d = markOf (factorWidth h) ++ (ascii " " ++ (regOf (factorWidth h) s ++ (ascii "," ++ regOf (productWidth h) d)))
+
+abbrev pub multiplyText : Sign → Half → ℕ → ℕ → List ℕ
+multiplyText sign h s d = multiplyName sign ++ productText h s d
+
+abbrev pub divideText : Sign → Half → ℕ → ℕ → List ℕ
+divideText sign h s d = divideName sign ++ productText h s d
 
 -- MOV with memory: source, then destination
 abbrev pub loadText : Width → Place → ℕ → List ℕ
@@ -72,6 +83,8 @@ textOf next (AddsSubs way by d) = addsText way by d
 textOf next (Decimal way d) = decimalText way d
 textOf next (Shift turn w d) = shiftText turn w d
 textOf next (Unary single w d) = unaryText single w d
+textOf next (Multiply sign h s d) = multiplyText sign h s d
+textOf next (Divide sign h s d) = divideText sign h s d
 textOf next (Move dir w p d) = moveText dir w p d
 textOf next (Bcc c reach) = bccText next c reach
 textOf next (Jmp to) = jmpText to

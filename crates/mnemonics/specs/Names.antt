@@ -5,7 +5,7 @@ use mathlib.Core.Bool.{cond}
 use mathlib.Core.List.{List, [], _∷_, _++_}
 use lib.Dec.{ltb}
 use lib.ListN.{take, drop}
-use Rattle.mnemonics.specs.Parts.{Width, Byte, Word, Long, Op, Add, Sub, Cmp, Mov, Addx, Subx, Or, Xor, And, Way, Up, Down, By, One, Two, Four, Turn, Shll, Shlr, Rotxl, Rotxr, Shal, Shar, Rotl, Rotr, Single, Not, Neg, Extu, Exts, Change, Orc, Xorc, Andc, Ldc}
+use Rattle.mnemonics.specs.Parts.{Sign, Unsigned, Signed, Width, Byte, Word, Long, Op, Add, Sub, Cmp, Mov, Addx, Subx, Or, Xor, And, Way, Up, Down, By, One, Two, Four, Turn, Shll, Shlr, Rotxl, Rotxr, Shal, Shar, Rotl, Rotr, Single, Not, Neg, Extu, Exts, Change, Orc, Xorc, Andc, Ldc}
 use Rattle.text.specs.Lines.{ascii}
 
 -- a byte register is RnH or RnL, a word register Rn or En, a long register ERn (002:1147-1164)
@@ -63,6 +63,15 @@ opMark And w = markOf w
 abbrev pub wayName : Way → List ℕ
 wayName Up = ascii "INC"
 wayName Down = ascii "DEC"
+
+-- 002: MULXU 2647, MULXS 2607, DIVXU 2017, DIVXS 1908
+abbrev pub multiplyName : Sign → List ℕ
+multiplyName Unsigned = ascii "MULXU"
+multiplyName Signed = ascii "MULXS"
+
+abbrev pub divideName : Sign → List ℕ
+divideName Unsigned = ascii "DIVXU"
+divideName Signed = ascii "DIVXS"
 
 abbrev pub addsName : Way → List ℕ
 addsName Up = ascii "ADDS "

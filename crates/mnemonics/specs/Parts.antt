@@ -21,7 +21,10 @@ pub use Rattle.codes.specs.declared.Place.{Place}
 pub use Rattle.codes.specs.declared.Place.the-variants.{At, Step, Disp, Abs8, Abs16, Abs24}
 pub use Rattle.codes.specs.declared.Reach.{Reach}
 pub use Rattle.codes.specs.declared.Reach.the-variants.{Near, Far}
+pub use Rattle.products.specs.declared.Half.{Half}
+pub use Rattle.codes.specs.declared.Sign.{Sign}
+pub use Rattle.codes.specs.declared.Sign.the-variants.{Unsigned, Signed}
 pub use Rattle.codes.specs.declared.Target.{Target}
 pub use Rattle.codes.specs.declared.Target.the-variants.{ByReg, Direct, Vector}
 pub use Rattle.codes.specs.declared.Instruction.{Instruction}
-pub use Rattle.codes.specs.declared.Instruction.the-variants.{Nop, Stc, LdcReg, Ccr, Alu, IncDec, AddsSubs, Decimal, Shift, Unary, Move, Bcc, Jmp, Bsr, Jsr, Rts}
+pub use Rattle.codes.specs.declared.Instruction.the-variants.{Nop, Stc, LdcReg, Ccr, Alu, IncDec, AddsSubs, Decimal, Shift, Unary, Multiply, Divide, Move, Bcc, Jmp, Bsr, Jsr, Rts}

@@ -1,7 +1,7 @@
 // An instruction as the maker's assembler writes it.
 ghost use mathlib.Core.List.{_++_};
 ghost use Rattle.text.specs.Lines.{Adds};
-ghost use Rattle.mnemonics.specs.Instructions.{stcText, ldcText, ccrText, aluText, countText, addsText, decimalText, shiftText, unaryText, loadText, storeText, moveText, bccText, bsrText, jmpText, jsrText, textOf};
+ghost use Rattle.mnemonics.specs.Instructions.{stcText, ldcText, ccrText, aluText, countText, addsText, decimalText, shiftText, unaryText, productText, multiplyText, divideText, loadText, storeText, moveText, bccText, bsrText, jmpText, jsrText, textOf};
 use crate::names;
 use crate::operands;
 use arith::Width;
@@ -12,11 +12,13 @@ use codes::Instruction;
 use codes::Op;
 use codes::Place;
 use codes::Reach;
+use codes::Sign;
 use codes::Single;
 use codes::Source;
 use codes::Target;
 use codes::Turn;
 use codes::Way;
+use products::Half;
 use text::Line;
 use text::bytes;
 
@@ -97,6 +99,32 @@ fn unary(l: Line, single: Single, w: Width, d: u8) -> Line
     names::reg(c, w, d)
 }
 
+// The mark, the source and the destination of a product or a quotient.
+fn product(l: Line, h: Half, s: u8, d: u8) -> Line
+    ensures { λ r. ⌜ Adds l (productText h s d) r ⌝ }
+{
+    let w = products::factor_width(h);
+    let a = names::mark(l, w);
+    let b = bytes(a, b" ");
+    let c = names::reg(b, w, s);
+    let e = bytes(c, b",");
+    names::reg(e, products::product_width(h), d)
+}
+
+fn multiply(l: Line, sign: Sign, h: Half, s: u8, d: u8) -> Line
+    ensures { λ r. ⌜ Adds l (multiplyText sign h s d) r ⌝ }
+{
+    let a = names::multiply_name(l, sign);
+    product(a, h, s, d)
+}
+
+fn divide(l: Line, sign: Sign, h: Half, s: u8, d: u8) -> Line
+    ensures { λ r. ⌜ Adds l (divideText sign h s d) r ⌝ }
+{
+    let a = names::divide_name(l, sign);
+    product(a, h, s, d)
+}
+
 fn load(l: Line, w: Width, p: Place, d: u8) -> Line
     ensures { λ r. ⌜ Adds l (loadText w p d) r ⌝ }
 {
@@ -172,6 +200,8 @@ pub fn instruction(l: Line, next: u32, i: Instruction) -> Line
         Instruction::Decimal(way, d) => decimal(l, way, d),
         Instruction::Shift(turn, w, d) => shift(l, turn, w, d),
         Instruction::Unary(single, w, d) => unary(l, single, w, d),
+        Instruction::Multiply(sign, h, s, d) => multiply(l, sign, h, s, d),
+        Instruction::Divide(sign, h, s, d) => divide(l, sign, h, s, d),
         Instruction::Move(dir, w, p, d) => moved(l, dir, w, p, d),
         Instruction::Bcc(c, reach) => bcc(l, next, c, reach),
         Instruction::Jmp(to) => jmp(l, to),

@@ -2,11 +2,12 @@
 ghost use mathlib.Core.Path.{_≡_};
 ghost use mathlib.Core.List.{[], _∷_};
 ghost use Rattle.text.specs.Lines.{Adds};
-ghost use Rattle.mnemonics.specs.Names.{numeralOf, halfOf, letterOfWord, byteReg, wordReg, longReg, regOf, markOf, opName, opMark, wayName, addsName, decimalName, turnName, singleName, changeName, byOf, branchNames, branchName};
+ghost use Rattle.mnemonics.specs.Names.{numeralOf, halfOf, letterOfWord, byteReg, wordReg, longReg, regOf, markOf, opName, opMark, wayName, multiplyName, divideName, addsName, decimalName, turnName, singleName, changeName, byOf, branchNames, branchName};
 use arith::Width;
 use codes::By;
 use codes::Change;
 use codes::Op;
+use codes::Sign;
 use codes::Single;
 use codes::Turn;
 use codes::Way;
@@ -133,6 +134,24 @@ pub fn way_name(l: Line, way: Way) -> Line
     match way {
         Way::Up => bytes(l, b"INC"),
         Way::Down => bytes(l, b"DEC"),
+    }
+}
+
+pub fn multiply_name(l: Line, sign: Sign) -> Line
+    ensures { λ r. ⌜ Adds l (multiplyName sign) r ⌝ }
+{
+    match sign {
+        Sign::Unsigned => bytes(l, b"MULXU"),
+        Sign::Signed => bytes(l, b"MULXS"),
+    }
+}
+
+pub fn divide_name(l: Line, sign: Sign) -> Line
+    ensures { λ r. ⌜ Adds l (divideName sign) r ⌝ }
+{
+    match sign {
+        Sign::Unsigned => bytes(l, b"DIVXU"),
+        Sign::Signed => bytes(l, b"DIVXS"),
     }
 }
 

@@ -8,8 +8,8 @@ use Rattle.refusal.specs.declared.Refusal.{Refusal}
 use Rattle.paths.specs.declared.Flow.{Flow}
 use Rattle.paths.specs.declared.Flow.the-variants.{Ends, Stop}
 use Rattle.paths.specs.Paths.{IsPlace, Leads, countOf, stop, Open, Path, ends, goes, here, Largest, Clear}
-use Rattle.machine.specs.Machine.{Machine, Steps, none, more}
-use Rattle.paths.specs.Runs.{Ending, returned, stopped, Off, Run, returns, stops, ByData, Fair, Bounded}
+use Rattle.machine.specs.Machine.{Machine, Steps, none, more, ByData}
+use Rattle.paths.specs.Runs.{Ending, returned, stopped, Off, Run, returns, stops, Fair, Bounded}
 use Rattle.paths.proofs.Laws.{Listing, up, clear-open, clear-on, clear-in, clear-path}
 
 -- a step at an instruction with the flow f: it returns, it goes where f leads, or it is refused by its data. It may have fewer states than f says, and never more. `Kept` is what every state of a run keeps

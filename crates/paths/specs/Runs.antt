@@ -1,11 +1,8 @@
 -- A run of any machine, and what a figure promises of it. Document 01, "The routine's figure": "In demand 3 a run returns when its first RTS
 -- completes; it is read as the repeated step from PC at the entry, with no stop address and enough budget, and a refused step adds no step or state."
-use mathlib.Core.Path.{_≡_}
-use mathlib.Core.Logic.{_⊎_}
 use Prim.Native.Nat.{ℕ, _+_, _*_, _≤_}
-use Rattle.machine.specs.Machine.{Machine, Steps}
+use Rattle.machine.specs.Machine.{Machine, Steps, ByData}
 use Rattle.refusal.specs.declared.Refusal.{Refusal}
-use Rattle.refusal.specs.Refusals.{numberOf}
 
 pub data Ending : Type 0 where
   returned : Ending
@@ -20,15 +17,11 @@ pub data Run (M : Machine) : M .State → ℕ → ℕ → Ending → Type 0 wher
   returns : {s t u : M .State} {c m n : ℕ} → Steps M (Off M) s c m t → M .AtReturn t → M .Does t u n → Run M s (c + 1) (m + n) returned
   stops : {s t : M .State} {c m : ℕ} {r : Refusal} → Steps M (Off M) s c m t → M .Refuses t r → Run M s c m (stopped r)
 
--- refused by a data access (5, 6) or a decimal adjustment (7)
-abbrev pub ByData : Refusal → Type 0
-ByData r = (numberOf r ≡ 5) ⊎ (numberOf r ≡ 6) ⊎ (numberOf r ≡ 7)
-
 abbrev pub Fair : Ending → Type 0
 Fair returned = Unit {0}
 Fair (stopped r) = ByData r
 
--- the run from s returns, or is refused by 5, 6 or 7, within n states, and within as many steps as a memory of `len` bytes has words
+-- the run from s returns, or is refused by its data, within n states, and within as many steps as a memory of `len` bytes has words
 pub record Bounded (M : Machine) (s : M .State) (n len : ℕ) : Type 0 where
   pub steps : ℕ
   pub states : ℕ

@@ -10,9 +10,11 @@ use lib.ListN.{length, drop}
 use borrow.Author.Tests.{eq-eqb, lt-ltb}
 use Rattle.arith.specs.declared.Adjust.{Adjust}
 use Rattle.arith.specs.declared.Adjust.the-variants.{Adding, NoRow}
+use mathlib.Core.Logic.{inl, inr}
 use Rattle.refusal.specs.Refusals.{numberOf}
+use Rattle.machine.specs.Machine.{ByData}
 use Rattle.refusal.specs.declared.Refusal.{Refusal}
-use Rattle.refusal.specs.declared.Refusal.the-variants.{BadBoard, FetchOutside, NoAdjustRow}
+use Rattle.refusal.specs.declared.Refusal.the-variants.{BadBoard, FetchOutside, NoAdjustRow, DivideFails}
 use Rattle.refusal.specs.declared.Outcome.{Outcome}
 use Rattle.refusal.specs.declared.Outcome.the-variants.{Done, Refused}
 use Rattle.registers.specs.declared.Registers.{Registers}
@@ -29,6 +31,10 @@ use Rattle.memory.proofs.Laws.{read-number, write-left, write-number, write-len
 use Rattle.operate.specs.Operate.{adjustedOf, decimalOf, carriedOf}
 use Rattle.operate.specs.Results.{did, refused}
 use Rattle.operate.specs.Results.{Effect}
+use Rattle.multiply.specs.Multiply.{dividedOf, divideOf}
+use Rattle.products.specs.declared.Half.{Half}
+use Rattle.products.specs.declared.Division.{Division}
+use Rattle.products.specs.declared.Division.the-variants.{Divided, Fails}
 use Rattle.moves.specs.Moves.{Stepped, stepped, stepOver, loadedOf, loadOf, storedOf, storeOf, pushOf, poppedOf}
 use Rattle.flow.specs.Targets.{nextOf}
 use Rattle.decoder.specs.MirrorDecode.{decodeOf}
@@ -36,7 +42,7 @@ use Rattle.codes.specs.States.{statesOf, goesOf}
 use Rattle.codes.proofs.Laws.{states-range}
 use Rattle.step.specs.Follow.{aimOf, followOf}
 use Rattle.step.specs.Step.{transferOf, effectOf, After, after, answered, stays, finishOf, carryOf, obeyOf, actOf, fetchOf, goodPc, stepOf}
-use Rattle.step.proofs.Range.{whole-stc, whole-ldc, whole-ccr, whole-alu, whole-inc-dec, whole-carried, whole-adds-subs, whole-added, whole-shift, whole-unary, whole-over}
+use Rattle.step.proofs.Range.{whole-stc, whole-ldc, whole-ccr, whole-alu, whole-inc-dec, whole-carried, whole-adds-subs, whole-added, whole-shift, whole-unary, whole-put, whole-multiply, whole-over}
 use Rattle.arith.specs.declared.Width.{Width}
 use Rattle.arith.specs.declared.Width.the-variants.{Byte, Word, Long}
 use Rattle.codes.specs.declared.Dir.{Dir}
@@ -46,21 +52,13 @@ use Rattle.codes.specs.declared.Place.the-variants.{At, Step, Disp, Abs8, Abs16
 use Rattle.codes.specs.declared.Target.{Target}
 use Rattle.codes.specs.declared.Target.the-variants.{ByReg, Direct, Vector}
 use Rattle.codes.specs.declared.Instruction.{Instruction}
-use Rattle.codes.specs.declared.Instruction.the-variants.{Nop, Stc, LdcReg, Ccr, Alu, IncDec, AddsSubs, Decimal, Shift, Unary, Move, Bcc, Jmp, Bsr, Jsr, Rts}
+use Rattle.codes.specs.declared.Instruction.the-variants.{Nop, Stc, LdcReg, Ccr, Alu, IncDec, AddsSubs, Decimal, Shift, Unary, Multiply, Divide, Move, Bcc, Jmp, Bsr, Jsr, Rts}
 use Rattle.codes.specs.declared.Goes.{Goes}
 use Rattle.codes.specs.declared.Goes.the-variants.{Onward, Branches, Jumps, CallsNear, Calls, Returns}
 use Rattle.codes.specs.declared.Decoded.{Decoded}
 use Rattle.codes.specs.declared.Decoded.the-variants.{Code, NoCode}
 use Rattle.codes.specs.declared.Way.{Way}
 use Rattle.codes.specs.declared.Way.the-variants.{Up, Down}
-
--- refused by a data access (5, 6) or a decimal adjustment (7)
-pub record ByData (f : Refusal) : Type 0 where
-  pub least : 5 ≤ numberOf f
-  pub most : numberOf f ≤ 7
-
-by : (f : Refusal) (n : ℕ) → numberOf f ≡ n → 5 ≤ n → n ≤ 7 → ByData f
-by f n e l m = record { least = omega arith; most = omega arith }
 
 -- what an instruction does to registers r and working memory ram: it is done, or refused by its data, and then nothing changed
 pub data Done-or-not (r : Registers) (ram : List ℕ) : Stepped → Type 0 where
@@ -72,18 +70,23 @@ module _ (r : Registers) (b : Board) (rom ram : List ℕ) where
       → Done-or-not r ram (stepped (loadedOf g w d r raised) ram)
   unfolding loadedOf
   load-view w d raised h (Value x) five = done _ ram refl (λ i. whole-condition _ _ (whole-part w raised d _ (h i)))
-  load-view w d raised h (NotRead f) five = not-done f (by f 5 (five f refl) (omega arith) (omega arith))
+  load-view w d raised h (NotRead f) five = not-done f (inl (five f refl))
 
   store-view : (w : Width) (a x : ℕ) (q : Registers) → (Whole r → Whole q) → (p : Put) → writeOf w b ram a x .put ≡ p
       → Done-or-not r ram (stepped (storedOf (writeOf w b ram a x .put) r q) (writeOf w b ram a x .mem))
   unfolding storedOf
   store-view w a x q h Stored e = rw e (done q (writeOf w b ram a x .mem) (write-length w b ram a x) h)
-  store-view w a x q h (NotStored f) e = rw (e, write-left w b ram a x f e) (not-done f (by f 6 (write-number w b ram a x f e) (omega arith) (omega arith)))
+  store-view w a x q h (NotStored f) e = rw (e, write-left w b ram a x f e) (not-done f (inr (inl (write-number w b ram a x f e))))
 
   adjust-view : (a : Adjust) (x d : ℕ) → Done-or-not r ram (stepped (adjustedOf a x d r) ram)
   unfolding adjustedOf
   adjust-view (Adding v c) x d = done _ ram refl (whole-added v c x d r)
-  adjust-view NoRow x d = not-done (NoAdjustRow (r .pc)) (by (NoAdjustRow (r .pc)) 7 refl (omega arith) (omega arith))
+  adjust-view NoRow x d = not-done (NoAdjustRow (r .pc)) (inr (inr (inl refl)))
+
+  divide-view : (q : Division) (h : Half) (d : ℕ) → Done-or-not r ram (stepped (dividedOf q h d r) ram)
+  unfolding dividedOf
+  divide-view (Divided x) h d = done _ ram refl (whole-put h d r x)
+  divide-view Fails h d = not-done (DivideFails (r .pc)) (inr (inr (inr refl)))
 
   transfer-view : (next : ℕ) (dir : Dir) (w : Width) (p : Place) (d : ℕ) → Done-or-not r ram (transferOf next r b rom ram dir w p d)
   unfolding transferOf loadOf storeOf
@@ -95,7 +98,7 @@ module _ (r : Registers) (b : Board) (rom ram : List ℕ) where
   push-view next = store-view Long _ next (carriedOf Down 4 7 r) (whole-carried Down 4 7 r) _ refl
 
   pub effect-view : (next : ℕ) (i : Instruction) → Done-or-not r ram (effectOf next r b rom ram i)
-  unfolding effectOf decimalOf
+  unfolding effectOf decimalOf divideOf
   effect-view next Nop = done r ram refl (λ h. h)
   effect-view next (Stc d) = done _ ram refl (whole-stc d r)
   effect-view next (LdcReg s) = done _ ram refl (whole-ldc s r)
@@ -106,6 +109,8 @@ module _ (r : Registers) (b : Board) (rom ram : List ℕ) where
   effect-view next (Decimal way d) = adjust-view _ _ d
   effect-view next (Shift turn w d) = done _ ram refl (whole-shift turn w d r)
   effect-view next (Unary single w d) = done _ ram refl (whole-unary single w d r)
+  effect-view next (Multiply sign h s d) = done _ ram refl (whole-multiply sign h s d r)
+  effect-view next (Divide sign h s d) = divide-view _ h d
   effect-view next (Move dir w p d) = transfer-view next dir w p d
   effect-view next (Bcc c reach) = done r ram refl (λ h. h)
   effect-view next (Jmp target) = done r ram refl (λ h. h)
@@ -148,7 +153,7 @@ module _ (r : Registers) (b : Board) (rom ram : List ℕ) where
     carried : (g : Got) → followOf r b rom ram (goesOf i) (nextOf (r .pc) n) ≡ g → Comes (carryOf g i (nextOf (r .pc) n) r b rom ram)
     unfolding carryOf
     carried (Value p) e = finished p e _ refl (effect-view (nextOf (r .pc) n) i)
-    carried (NotRead f) e = by-data i n f l d (by f 5 (follow-five (goesOf i) (nextOf (r .pc) n) f e) (omega arith) (omega arith))
+    carried (NotRead f) e = by-data i n f l d (inl (follow-five (goesOf i) (nextOf (r .pc) n) f e))
 
     obeyed : Comes (obeyOf i n r b rom ram)
     unfolding obeyOf
@@ -214,17 +219,17 @@ module _ (r : Registers) (b : Board) (rom ram : List ℕ) where
   pub fetch-refused : (f : Refusal) → fetchOf r b rom ram .answer .outcome ≡ Refused f → fetchOf r b rom ram ≡ after (stays r f) ram
   fetch-refused f e = refused-stays _ (comes r b rom ram) f e
 
-  few : (a : After) → Comes r b rom ram a → a .answer .states ≤ 12
+  few : (a : After) → Comes r b rom ram a → a .answer .states ≤ 24
   few a (outside l) = omega arith
   few a (no-code f l d) = omega arith
   few a (by-data i n f l d k) = omega arith
   few a (completes i n p q m l d g e k h) = states-range i .1
 
-  few-on : (t : Bool) → goodBoard b (length rom) (length ram) && goodPc (r .pc) ≡ t → stepOf b rom ram r .answer .states ≤ 12
+  few-on : (t : Bool) → goodBoard b (length rom) (length ram) && goodPc (r .pc) ≡ t → stepOf b rom ram r .answer .states ≤ 24
   unfolding stepOf
   few-on true e = rw e (few _ (comes r b rom ram))
   few-on false e = rw e (omega arith)
 
-  -- a step takes at most 12 states
-  pub step-states : stepOf b rom ram r .answer .states ≤ 12
+  -- a step takes at most 24 states
+  pub step-states : stepOf b rom ram r .answer .states ≤ 24
   step-states = few-on _ refl

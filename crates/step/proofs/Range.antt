@@ -7,7 +7,13 @@ use Rattle.registers.specs.declared.Condition.{Condition}
 use Rattle.registers.specs.Parts.{withPart, withCondition}
 use Rattle.registers.proofs.Kept.{Whole, whole-part, whole-condition}
 use Rattle.operate.specs.Operate.{stcOf, ldcOf, ccrOf, operatedOf, aluOf, incDecOf, carriedOf, addsSubsOf, addedOf, shiftOf, unaryOf}
+use Rattle.multiply.specs.Multiply.{putOf, multiplyOf}
 use Rattle.moves.specs.Moves.{stepOver}
+use Rattle.arith.specs.declared.Moved.{Moved}
+use Rattle.products.specs.declared.Half.{Half}
+use Rattle.products.specs.Products.{productWidth}
+use Rattle.codes.specs.declared.Sign.{Sign}
+use Rattle.codes.specs.declared.Sign.the-variants.{Unsigned, Signed}
 use Rattle.arith.specs.declared.Width.{Width}
 use Rattle.arith.specs.declared.Width.the-variants.{Byte, Word, Long}
 use Rattle.codes.specs.declared.Op.{Op}
@@ -87,6 +93,15 @@ whole-unary Not w d r h = result w r d _ _ h
 whole-unary Neg w d r h = result w r d _ _ h
 whole-unary Extu w d r h = result w r d _ _ h
 whole-unary Exts w d r h = result w r d _ _ h
+
+pub whole-put : (h : Half) (d : ℕ) (r : Registers) (x : Moved) → Whole r → Whole (putOf h d r x)
+unfolding putOf
+whole-put h d r x w = result (productWidth h) r d _ _ w
+
+pub whole-multiply : (sign : Sign) (h : Half) (s d : ℕ) (r : Registers) → Whole r → Whole (multiplyOf sign h s d r)
+unfolding multiplyOf
+whole-multiply Unsigned h s d r w = whole-part (productWidth h) r d _ w
+whole-multiply Signed h s d r w = whole-put h d r _ w
 
 pub whole-over : (way : Way) (w : Width) (p : Place) (r : Registers) → Whole r → Whole (stepOver way w p r)
 unfolding stepOver

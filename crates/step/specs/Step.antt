@@ -17,6 +17,7 @@ use Rattle.memory.specs.declared.Got.{Got}
 use Rattle.memory.specs.declared.Got.the-variants.{Value, NotRead}
 use Rattle.operate.specs.Operate.{stcOf, ldcOf, ccrOf, aluOf, incDecOf, addsSubsOf, decimalOf, shiftOf, unaryOf}
 use Rattle.operate.specs.Results.{did}
+use Rattle.multiply.specs.Multiply.{multiplyOf, divideOf}
 use Rattle.moves.specs.Moves.{Stepped, stepped, loadOf, storeOf, pushOf, poppedOf}
 use Rattle.flow.specs.Targets.{nextOf}
 use Rattle.decoder.specs.MirrorDecode.{decodeOf}
@@ -28,7 +29,7 @@ use Rattle.codes.specs.declared.Dir.the-variants.{Load, Store}
 use Rattle.codes.specs.declared.Place.{Place}
 use Rattle.codes.specs.declared.Place.the-variants.{At, Step, Disp, Abs8, Abs16, Abs24}
 use Rattle.codes.specs.declared.Instruction.{Instruction}
-use Rattle.codes.specs.declared.Instruction.the-variants.{Nop, Stc, LdcReg, Ccr, Alu, IncDec, AddsSubs, Decimal, Shift, Unary, Move, Bcc, Jmp, Bsr, Jsr, Rts}
+use Rattle.codes.specs.declared.Instruction.the-variants.{Nop, Stc, LdcReg, Ccr, Alu, IncDec, AddsSubs, Decimal, Shift, Unary, Multiply, Divide, Move, Bcc, Jmp, Bsr, Jsr, Rts}
 use Rattle.codes.specs.declared.Decoded.{Decoded}
 use Rattle.codes.specs.declared.Decoded.the-variants.{Code, NoCode}
 
@@ -49,6 +50,8 @@ module _ (next : ℕ) (r : Registers) (b : Board) (rom ram : List ℕ) where
   effectOf (Decimal way d) = stepped (decimalOf way d r) ram
   effectOf (Shift turn w d) = stepped (did (shiftOf turn w d r)) ram
   effectOf (Unary single w d) = stepped (did (unaryOf single w d r)) ram
+  effectOf (Multiply sign h s d) = stepped (did (multiplyOf sign h s d r)) ram
+  effectOf (Divide sign h s d) = stepped (divideOf sign h s d r) ram
   effectOf (Move dir w p d) = transferOf dir w p d
   effectOf (Bcc c reach) = stepped (did r) ram
   effectOf (Jmp target) = stepped (did r) ram

@@ -211,6 +211,16 @@ fn obey(i: Instruction, n: usize, r: Registers, b: Board, rom: &[u8], ram: &mut 
         Instruction::Decimal(way, d) => ended(operate::decimal(way, d, r), next, 2),
         Instruction::Shift(turn, w, d) => done(operate::shift(turn, w, d, r), next, 2),
         Instruction::Unary(single, w, d) => done(operate::unary(single, w, d, r), next, 2),
+        Instruction::Multiply(sign, h, s, d) => done(
+            multiply::multiply(sign, h, s, d, r),
+            next,
+            codes::product_states(sign, h),
+        ),
+        Instruction::Divide(sign, h, s, d) => ended(
+            multiply::divide(sign, h, s, d, r),
+            next,
+            codes::product_states(sign, h),
+        ),
         Instruction::Move(dir, w, p, d) => moved(dir, w, p, d, next, r, b, rom, ram),
         Instruction::Bcc(c, reach) => branch(c, reach, next, r),
         Instruction::Jmp(t) => jumped(aim(t, r, b, rom, &ram[..]), r, codes::jmp_states(t)),
