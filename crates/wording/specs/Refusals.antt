@@ -3,7 +3,7 @@ use Prim.Native.Nat.{ℕ}
 use mathlib.Core.List.{List, _++_}
 use lib.ListN.{length}
 use Rattle.refusal.specs.declared.Refusal.{Refusal}
-use Rattle.refusal.specs.declared.Refusal.the-variants.{BadBoard, FetchOutside, UnknownCode, CutShort, ReadOutside, WriteOutside, NoAdjustRow, BadEntry, NotFollowed, NotUpward, NotInstruction, BudgetTooLarge, LentTooShort}
+use Rattle.refusal.specs.declared.Refusal.the-variants.{BadBoard, FetchOutside, UnknownCode, CutShort, ReadOutside, WriteOutside, NoAdjustRow, BadEntry, NotFollowed, NotUpward, NotInstruction, BudgetTooLarge, LentTooShort, DivideFails}
 use Rattle.paths.specs.declared.Flow.{Flow}
 use Rattle.paths.specs.declared.Flow.the-variants.{Next, Jump, Either, Ends, Stop}
 use Rattle.listing.specs.Listing.{flowAt}
@@ -31,6 +31,9 @@ writeText p = ascii "6" ++ (atPlace p ++ ascii "a write outside the working memo
 
 abbrev pub adjustText : List ℕ → ℕ → List ℕ
 adjustText rom p = ascii "7" ++ (atPlace p ++ (standsAt rom p ++ ascii " with a value and flags that are in no row of the manual"))
+
+abbrev pub divideText : List ℕ → ℕ → List ℕ
+divideText rom p = ascii "14" ++ (atPlace p ++ (standsAt rom p ++ ascii " by zero, or with a quotient that does not fit"))
 
 abbrev pub entryText : ℕ → ℕ → List ℕ
 entryText n p = ascii "8" ++ (atPlace p ++ (ascii "the entry is odd or outside the ROM, which has " ++ (decimalOf n ++ ascii " bytes")))
@@ -66,3 +69,4 @@ refusalText rom (NotUpward p) = upwardText p (backOf p (flowAt rom p))
 refusalText rom NotInstruction = ascii "11: not an instruction: a field is out of range"
 refusalText rom BudgetTooLarge = ascii "12: the budget is over 1000000 steps"
 refusalText rom (LentTooShort n) = shortText n
+refusalText rom (DivideFails p) = divideText rom p

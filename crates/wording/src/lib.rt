@@ -4,7 +4,7 @@ ghost use lib.ListN.{length};
 ghost use Rattle.listing.specs.Listing.{flowAt};
 ghost use Rattle.text.specs.Lines.{Adds};
 ghost use Rattle.wording.specs.Standing.{byteText, bytesAt, noCodeText, foundText, standsAt};
-ghost use Rattle.wording.specs.Refusals.{atPlace, outsideText, unknownText, cutText, readText, writeText, adjustText, entryText, followText, backOf, upwardText, shortText, refusalText};
+ghost use Rattle.wording.specs.Refusals.{atPlace, outsideText, unknownText, cutText, readText, writeText, adjustText, divideText, entryText, followText, backOf, upwardText, shortText, refusalText};
 use codes::Decoded;
 use paths::Flow;
 use refusal::Refusal;
@@ -145,6 +145,18 @@ fn adjust(l: Line, rom: &[u8], p: u32) -> Line
     )
 }
 
+fn divide(l: Line, rom: &[u8], p: u32) -> Line
+    ensures { λ r. ⌜ Adds l (divideText (now (rom .entry)) p) r ⌝ }
+{
+    let a = text::bytes(l, b"14");
+    let b = at_place(a, p);
+    let c = stands(b, rom, p);
+    text::bytes(
+        c,
+        b" by zero, or with a quotient that does not fit",
+    )
+}
+
 fn entry(l: Line, n: usize, p: u32) -> Line
     ensures { λ r. ⌜ Adds l (entryText n p) r ⌝ }
 {
@@ -230,5 +242,6 @@ pub fn refusal(l: Line, rom: &[u8], f: Refusal) -> Line
         ),
         Refusal::BudgetTooLarge => text::bytes(l, b"12: the budget is over 1000000 steps"),
         Refusal::LentTooShort(n) => short(l, n),
+        Refusal::DivideFails(p) => divide(l, rom, p),
     }
 }
