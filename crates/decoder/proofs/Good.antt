@@ -8,14 +8,15 @@ use native.Mathlib.Nat.{div-add-mod'}
 use lib.Dec.{ltb, eqb}
 use borrow.Author.Tests.{eqb-true, ltb-true, ltb-false, eqb-false}
 use Rattle.decoder.specs.Names.{Width, Byte, Word, Long, Op, Add, Sub, Cmp, Mov, Or, Xor, And, Reg, Way, Up, Down, One, Two, Four, Turn, Shll}
-use Rattle.decoder.specs.Names.{Shlr, Rotxl, Rotxr, Shal, Shar, Rotl, Rotr, Not, Neg, Extu, Exts, Dir, Load, Store, Place, At, Step, Disp, Abs16}
-use Rattle.decoder.specs.Names.{Abs24, ByReg, Instruction, Alu, IncDec, AddsSubs, Shift, Unary, Move, Jmp, Jsr, Rest, Plan, Whole, Lacks}
+use Rattle.decoder.specs.Names.{Shlr, Rotxl, Rotxr, Shal, Shar, Rotl, Rotr, Not, Neg, Extu, Exts, Half, Eight, Sixteen, Sign, Unsigned, Signed, Dir, Load, Store, Place, At, Step, Disp, Abs16}
+use Rattle.decoder.specs.Names.{Abs24, ByReg, Instruction, Alu, IncDec, AddsSubs, Shift, Unary, Multiply, Divide, Move, Jmp, Jsr, Rest, Plan, Whole, Lacks}
 use Rattle.decoder.specs.Names.{Nothing, Mode, Plain, Stepping, Displaced, Absolute, Tail, Bits16, Bits24, Bits32}
 use Rattle.codes.specs.Code.{_·_, be16, be24, wayDigit, digit013, digit89B, firstDigit, nextDigit, dirDigit, codeOf}
+use Rattle.products.specs.Products.{factorWidth, productWidth}
 use Rattle.codes.specs.Valid.{Digit, HasReg, HasImm, HasPlace, Valid}
 use Rattle.decoder.specs.MirrorDecode.{tailOf, fillOf}
-use Rattle.decoder.specs.MirrorWords.{pick, below, regReg, longReg, incDecOf, shiftOf, unaryOf, row0, row1, bccDigit, row5, memoryOf, row6, firstOp}
-use Rattle.decoder.specs.MirrorWords.{nextOp, row7, planOf, longMemory, longLogic, after00, afterF0, afterOf}
+use Rattle.decoder.specs.MirrorWords.{pick, below, held, regReg, longReg, incDecOf, shiftOf, unaryOf, row0, row1, bccDigit, row5, memoryOf, row6, firstOp}
+use Rattle.decoder.specs.MirrorWords.{nextOp, row7, planOf, longMemory, longLogic, after00, afterC0, afterD0, afterF0, afterOf}
 
 -- ---- a plan is good after the bytes pre and for the word a b: what it makes is an instruction, and its code is those bytes
 
@@ -70,6 +71,16 @@ six≡ : (pre : List ℕ) {a b x y z a' b' x' y' z' : ℕ} → a ≡ a' → b �
 six≡ pre p q r s t = λ i. pre ++ (p i ∷ q i ∷ 0 ∷ r i ∷ s i ∷ t i ∷ [])
 
 -- ---- the parts
+
+-- MULXU to DIVXS, after pre: rs then rd, or rs then e
+product-good : (pre : List ℕ) (a b : ℕ) → b < 256 → (h : Half) (make : ℕ → ℕ → Instruction)
+    → ((s d : ℕ) → Digit (factorWidth h) s → Digit (productWidth h) d → Valid (make s d)) → ((s d : ℕ) → codeOf (make s d) ≡ pre ++ (a ∷ s · d ∷ []))
+    → Good pre a b (held (productWidth h) (b % 16) (Whole (make (b / 16) (b % 16))))
+product-good pre a b hb Eight make v f = (v (b / 16) (b % 16) (omega arith) (omega arith), f (b / 16) (b % 16) ∙ ap (λ x. pre ++ (a ∷ x ∷ [])) (omega arith))
+product-good pre a b hb Sixteen make v f =
+    if< (Good pre a b) (b % 16) 8
+    (λ k. (v (b / 16) (b % 16) (omega arith) k, f (b / 16) (b % 16) ∙ ap (λ x. pre ++ (a ∷ x ∷ [])) (omega arith)))
+    (λ k. tt)
 
 module _ (a b : ℕ) (hb : b < 256) where
   short-good : (d : ℕ) (i : Instruction) → (d < 8 → Codes [] a b i []) → Good [] a b (below d 8 (Whole i))
@@ -158,6 +169,10 @@ module _ (a b : ℕ) (hb : b < 256) where
 
   row5-good : a / 16 ≡ 5 → Good [] a b (row5 (a % 16) b)
   row5-good z =
+      if≡ (Good [] a b) (a % 16) 0 (λ h. product-good [] a b hb Eight (Multiply Unsigned Eight) (λ s d v w. (v, w)) (λ s d. two≡ (omega arith) refl)) λ n0.
+      if≡ (Good [] a b) (a % 16) 1 (λ h. product-good [] a b hb Eight (Divide Unsigned Eight) (λ s d v w. (v, w)) (λ s d. two≡ (omega arith) refl)) λ n1.
+      if≡ (Good [] a b) (a % 16) 2 (λ h. product-good [] a b hb Sixteen (Multiply Unsigned Sixteen) (λ s d v w. (v, w)) (λ s d. two≡ (omega arith) refl)) λ n2.
+      if≡ (Good [] a b) (a % 16) 3 (λ h. product-good [] a b hb Sixteen (Divide Unsigned Sixteen) (λ s d v w. (v, w)) (λ s d. two≡ (omega arith) refl)) λ n3.
       if≡ (Good [] a b) (a % 16) 4 (λ h. if≡ (Good [] a b) b 112 (λ k. (tt, two≡ (omega arith) (omega arith))) (λ k. tt)) λ n4.
       if≡ (Good [] a b) (a % 16) 5 (λ h. (hb, two≡ (omega arith) refl)) λ n5.
       if≡ (Good [] a b) (a % 16) 8 (λ h. if≡ (Good [] a b) (bccDigit b) 0 (λ k x y hx hy. (omega arith, four≡ [] (omega arith) (omega arith) (omega arith) (omega arith))) (λ k. tt)) λ n8.
@@ -341,7 +356,23 @@ module _ (c d : ℕ) (hd : d < 256) where
       if≡ (Good (1 ∷ 0xF0 ∷ []) c d) c 0x65 (λ h. long-logic Xor (λ k m. (omega arith, four≡ [] refl refl (sym h) (omega arith)))) λ n65.
       if≡ (Good (1 ∷ 0xF0 ∷ []) c d) c 0x66 (λ h. long-logic And (λ k m. (omega arith, four≡ [] refl refl (sym h) (omega arith)))) λ n66. tt
 
+  afterC0-good : Good (1 ∷ 0xC0 ∷ []) c d (afterC0 c d)
+  afterC0-good =
+      if≡ (Good (1 ∷ 0xC0 ∷ []) c d) c 0x50
+      (λ h. product-good (1 ∷ 0xC0 ∷ []) c d hd Eight (Multiply Signed Eight) (λ s e v w. (v, w)) (λ s e. four≡ [] refl refl (sym h) refl)) λ n50.
+      if≡ (Good (1 ∷ 0xC0 ∷ []) c d) c 0x52
+      (λ h. product-good (1 ∷ 0xC0 ∷ []) c d hd Sixteen (Multiply Signed Sixteen) (λ s e v w. (v, w)) (λ s e. four≡ [] refl refl (sym h) refl)) λ n52. tt
+
+  afterD0-good : Good (1 ∷ 0xD0 ∷ []) c d (afterD0 c d)
+  afterD0-good =
+      if≡ (Good (1 ∷ 0xD0 ∷ []) c d) c 0x51
+      (λ h. product-good (1 ∷ 0xD0 ∷ []) c d hd Eight (Divide Signed Eight) (λ s e v w. (v, w)) (λ s e. four≡ [] refl refl (sym h) refl)) λ n51.
+      if≡ (Good (1 ∷ 0xD0 ∷ []) c d) c 0x53
+      (λ h. product-good (1 ∷ 0xD0 ∷ []) c d hd Sixteen (Divide Signed Sixteen) (λ s e v w. (v, w)) (λ s e. four≡ [] refl refl (sym h) refl)) λ n53. tt
+
   pub after-good : (b : ℕ) → Good (1 ∷ b ∷ []) c d (afterOf b c d)
   after-good b =
       if≡ (Good (1 ∷ b ∷ []) c d) b 0 (λ h. subst (λ x. Good (1 ∷ x ∷ []) c d (after00 c d)) (sym h) after00-good) λ n0.
+      if≡ (Good (1 ∷ b ∷ []) c d) b 0xC0 (λ h. subst (λ x. Good (1 ∷ x ∷ []) c d (afterC0 c d)) (sym h) afterC0-good) λ nC0.
+      if≡ (Good (1 ∷ b ∷ []) c d) b 0xD0 (λ h. subst (λ x. Good (1 ∷ x ∷ []) c d (afterD0 c d)) (sym h) afterD0-good) λ nD0.
       if≡ (Good (1 ∷ b ∷ []) c d) b 0xF0 (λ h. subst (λ x. Good (1 ∷ x ∷ []) c d (afterF0 c d)) (sym h) afterF0-good) λ nF0. tt

@@ -9,14 +9,15 @@ use lib.Dec.{ltb, eqb}
 use lib.Arith.{digits-div, digits-mod}
 use borrow.Author.Tests.{eqb-false, le-ltb, lt-ltb, eq-eqb, ne-eqb}
 use Rattle.decoder.specs.Names.{Width, Byte, Word, Long, Op, Add, Sub, Cmp, Mov, Addx, Subx, Or, Xor, And, Reg, Imm, Way, Up, Down, By, One, Two}
-use Rattle.decoder.specs.Names.{Four, Turn, Shll, Shlr, Rotxl, Rotxr, Shal, Shar, Rotl, Rotr, Single, Not, Neg, Extu, Exts, Change, Orc, Xorc}
+use Rattle.decoder.specs.Names.{Four, Turn, Shll, Shlr, Rotxl, Rotxr, Shal, Shar, Rotl, Rotr, Single, Not, Neg, Extu, Exts, Half, Eight, Sixteen, Sign, Unsigned, Signed, Change, Orc, Xorc}
 use Rattle.decoder.specs.Names.{Andc, Ldc, Dir, Load, Store, Place, At, Step, Disp, Abs8, Abs16, Abs24, Reach, Near, Far, Target, ByReg, Direct}
-use Rattle.decoder.specs.Names.{Vector, Instruction, Nop, Stc, LdcReg, Ccr, Alu, IncDec, AddsSubs, Decimal, Shift, Unary, Move, Bcc, Jmp, Bsr}
+use Rattle.decoder.specs.Names.{Vector, Instruction, Nop, Stc, LdcReg, Ccr, Alu, IncDec, AddsSubs, Decimal, Shift, Unary, Multiply, Divide, Move, Bcc, Jmp, Bsr}
 use Rattle.decoder.specs.Names.{Jsr, Rts, Rest, Imm16, Imm32, Disp16, Aa16, Aa24, Bcc16, Bsr16, Jmp24, Jsr24, Plan, Whole, Lacks, Nothing, Mode}
 use Rattle.decoder.specs.Names.{Plain, Stepping, Displaced, Absolute, Bits16, Bits24, Bits32, Cut}
 use Rattle.codes.specs.Code.{codeOf, _·_, dirDigit, digit013, digit89B, be16, be24, be32}
 use Rattle.codes.specs.Valid.{Valid, Digit}
-use Rattle.decoder.specs.MirrorWords.{pick, exactly, below, regReg, longReg, incDecs, shifts, shiftOf, unaries, bccDigit, moveOf, memoryOf, nextOp, plans, planOf}
+use Rattle.products.specs.Products.{productWidth}
+use Rattle.decoder.specs.MirrorWords.{pick, exactly, below, held, regReg, multiplied, divided, longReg, incDecs, shifts, shiftOf, unaries, bccDigit, moveOf, memoryOf, nextOp, plans, planOf}
 use Rattle.decoder.specs.MirrorWords.{longMemory, longLogic, afterOf}
 use Rattle.decoder.specs.MirrorDecode.{tailOf, fillOf, begunOf, startsOf, prefixedOf}
 
@@ -262,6 +263,31 @@ unary-shape Exts Byte r v = absurd (v .0)
 unary-shape Exts Word r v = by-digits unaries 13 refl refl (λ b. refl) (v .1) refl
 unary-shape Exts Long r v = by-digits unaries 15 refl refl (λ b. refl) (omega arith) (short (v .1))
 
+-- the destination's digit, r or e by the width of the product
+product-digit : (h : Half) (d : ℕ) → Digit (productWidth h) d → d < 16
+product-digit Eight d v = v
+product-digit Sixteen d v = omega arith
+
+product-held : (h : Half) (d : ℕ) {p : Plan} → Digit (productWidth h) d → held (productWidth h) d p ≡ p
+product-held Eight d v = refl
+product-held Sixteen d v = short v
+
+at-product : (make : ℕ → ℕ → Instruction) (h : Half) (s d : ℕ) → Digit (productWidth h) d
+    → held (productWidth h) ((s · d) % 16) (Whole (make ((s · d) / 16) ((s · d) % 16))) ≡ Whole (make s d)
+at-product make h s d v = digits (λ x y. held (productWidth h) y (Whole (make x y))) s (product-digit h d v) ∙ product-held h d v
+
+multiply-shape : (sign : Sign) (h : Half) (s d : ℕ) → Digit (productWidth h) d → Shape (Multiply sign h s d) (codeOf (Multiply sign h s d))
+multiply-shape Unsigned Eight s d v = one refl refl (at-product (Multiply Unsigned Eight) Eight s d v)
+multiply-shape Unsigned Sixteen s d v = one refl refl (at-product (Multiply Unsigned Sixteen) Sixteen s d v)
+multiply-shape Signed Eight s d v = long refl refl (all (at-product (Multiply Signed Eight) Eight s d v))
+multiply-shape Signed Sixteen s d v = long refl refl (all (at-product (Multiply Signed Sixteen) Sixteen s d v))
+
+divide-shape : (sign : Sign) (h : Half) (s d : ℕ) → Digit (productWidth h) d → Shape (Divide sign h s d) (codeOf (Divide sign h s d))
+divide-shape Unsigned Eight s d v = one refl refl (at-product (Divide Unsigned Eight) Eight s d v)
+divide-shape Unsigned Sixteen s d v = one refl refl (at-product (Divide Unsigned Sixteen) Sixteen s d v)
+divide-shape Signed Eight s d v = long refl refl (all (at-product (Divide Signed Eight) Eight s d v))
+divide-shape Signed Sixteen s d v = long refl refl (all (at-product (Divide Signed Sixteen) Sixteen s d v))
+
 -- what follows the second byte of a MOV with memory
 ends-disp : {p : Plan} (dir : Dir) (w : Width) (e d r : ℕ) → d < 0x10000 → p ≡ moveOf w Displaced dir e r → Ends p (Move dir w (Disp e d) r) (be16 d)
 ends-disp dir w e d r h k = two (Disp16 dir w e r) k refl (ap (λ x. Move dir w (Disp e x) r) (low16 d h))
@@ -331,6 +357,8 @@ shape (AddsSubs way by e) v = adds-shape way by e v
 shape (Decimal way r) v = decimal-shape way r v
 shape (Shift t w r) v = shift-shape t w r v
 shape (Unary u w r) v = unary-shape u w r v
+shape (Multiply sign h s d) v = multiply-shape sign h s d (v .1)
+shape (Divide sign h s d) v = divide-shape sign h s d (v .1)
 shape (Move dir w p r) v = move-shape dir w p r v
 shape (Bcc c k) v = bcc-shape c k v
 shape (Jmp t) v = jmp-shape t v

@@ -8,7 +8,7 @@ use native.Mathlib.Omega.{arith}
 use lib.Dec.{eqb}
 use lib.ListN.{length, length-append}
 use borrow.Author.Tests.{eqb-true, eqb-false}
-use Rattle.decoder.specs.Names.{Long, Or, Reg, Load, At, Instruction, Nop, Alu, Move, Rts, Rest, Plan, Whole, Lacks, Nothing, Tail, Bits16}
+use Rattle.decoder.specs.Names.{Long, Or, Reg, Eight, Signed, Load, At, Instruction, Nop, Alu, Multiply, Divide, Move, Rts, Rest, Plan, Whole, Lacks, Nothing, Tail, Bits16}
 use Rattle.decoder.specs.Names.{Bits24, Bits32, Found, Is, Cut, Unlisted}
 use Rattle.codes.specs.Code.{codeOf}
 use Rattle.codes.specs.Valid.{Valid}
@@ -121,6 +121,10 @@ prefixed-sound : (b : ℕ) (t : List ℕ) → Bytes t → Sound (1 ∷ b ∷ t) 
 prefixed-sound b [] h =
     if≡ (Sound (1 ∷ b ∷ [])) b 0x00
     (λ k. (Move Load Long (At 0) 0, (omega arith, omega arith), (0x69, 0 ∷ [], ap (λ x. 1 ∷ x ∷ 0x69 ∷ 0 ∷ []) (sym k)))) λ n0.
+    if≡ (Sound (1 ∷ b ∷ [])) b 0xC0
+    (λ k. (Multiply Signed Eight 0 0, (omega arith, omega arith), (0x50, 0 ∷ [], ap (λ x. 1 ∷ x ∷ 0x50 ∷ 0 ∷ []) (sym k)))) λ nC0.
+    if≡ (Sound (1 ∷ b ∷ [])) b 0xD0
+    (λ k. (Divide Signed Eight 0 0, (omega arith, omega arith), (0x51, 0 ∷ [], ap (λ x. 1 ∷ x ∷ 0x51 ∷ 0 ∷ []) (sym k)))) λ nD0.
     if≡ (Sound (1 ∷ b ∷ [])) b 0xF0 (λ k. (Alu Or Long (Reg 0) 0, omega arith, (0x64, 0 ∷ [], ap (λ x. 1 ∷ x ∷ 0x64 ∷ 0 ∷ []) (sym k)))) λ nF0. tt
 prefixed-sound b (c ∷ []) h = begun-sound (1 ∷ b ∷ []) c (afterOf b c 0) (after-good c 0 (omega arith) b)
 prefixed-sound b (c ∷ d ∷ t) h =

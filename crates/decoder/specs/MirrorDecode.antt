@@ -67,7 +67,11 @@ abbrev pub startsOf : ℕ → Found
 startsOf a = aloneOf a (planOf a 0)
 
 abbrev pub prefixOf : ℕ → Found
-prefixOf b = pick (eqb b 0x00) Cut (pick (eqb b 0xF0) Cut Unlisted)
+prefixOf b =
+    pick (eqb b 0x00) Cut
+    (pick (eqb b 0xC0) Cut
+    (pick (eqb b 0xD0) Cut
+    (pick (eqb b 0xF0) Cut Unlisted)))
 
 abbrev pub prefixedOf : ℕ → List ℕ → Found
 prefixedOf b rest =

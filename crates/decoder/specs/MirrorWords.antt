@@ -3,10 +3,11 @@
 use Prim.Native.Nat.{ℕ, _-_, _/_, _%_}
 use mathlib.Core.Bool.{Bool, true, false}
 use lib.Dec.{ltb, eqb}
+use Rattle.products.specs.Products.{productWidth}
 use Rattle.decoder.specs.Names.{Width, Byte, Word, Long, Op, Add, Sub, Cmp, Mov, Addx, Subx, Or, Xor, And, Reg, Imm, Way, Up, Down, By, One, Two, Four}
-use Rattle.decoder.specs.Names.{Turn, Shll, Shlr, Rotxl, Rotxr, Shal, Shar, Rotl, Rotr, Single, Not, Neg, Extu, Exts, Change, Orc, Xorc, Andc, Ldc}
+use Rattle.decoder.specs.Names.{Turn, Shll, Shlr, Rotxl, Rotxr, Shal, Shar, Rotl, Rotr, Single, Not, Neg, Extu, Exts, Half, Eight, Sixteen, Sign, Unsigned, Signed, Change, Orc, Xorc, Andc, Ldc}
 use Rattle.decoder.specs.Names.{Dir, Load, Store, Place, At, Step, Disp, Abs8, Abs16, Abs24, Reach, Near, Far, Target, ByReg, Direct, Vector}
-use Rattle.decoder.specs.Names.{Instruction, Nop, Stc, LdcReg, Ccr, Alu, IncDec, AddsSubs, Decimal, Shift, Unary, Move, Bcc, Jmp, Bsr, Jsr, Rts}
+use Rattle.decoder.specs.Names.{Instruction, Nop, Stc, LdcReg, Ccr, Alu, IncDec, AddsSubs, Decimal, Shift, Unary, Multiply, Divide, Move, Bcc, Jmp, Bsr, Jsr, Rts}
 use Rattle.decoder.specs.Names.{Imm16, Imm32, Disp16, Aa16, Aa24, Bcc16, Bsr16, Jmp24, Jsr24, Plan, Whole, Lacks, Nothing, Mode, Plain, Stepping, Displaced, Absolute}
 
 abbrev pub pick : {A : Type 0} → Bool → A → A → A
@@ -38,6 +39,12 @@ ccrOf change b = Whole (Ccr change b)
 
 abbrev pub regReg : Op → Width → ℕ → Plan
 regReg op w b = Whole (Alu op w (Reg (b / 16)) (b % 16))
+
+abbrev pub multiplied : Sign → Half → ℕ → Plan
+multiplied sign h b = held (productWidth h) (b % 16) (Whole (Multiply sign h (b / 16) (b % 16)))
+
+abbrev pub divided : Sign → Half → ℕ → Plan
+divided sign h b = held (productWidth h) (b % 16) (Whole (Divide sign h (b / 16) (b % 16)))
 
 abbrev pub longReg : Op → ℕ → Plan
 longReg op b = pick (ltb b 128) Nothing (below (b % 16) 8 (Whole (Alu op Long (Reg (b / 16 - 8)) (b % 16))))
@@ -159,7 +166,11 @@ jsrReg b = exactly (b % 16) 0 (below (b / 16) 8 (Whole (Jsr (ByReg (b / 16)))))
 
 abbrev pub row5 : ℕ → ℕ → Plan
 row5 lo b =
-    pick (eqb lo 0x4) (rtsOf b)
+    pick (eqb lo 0x0) (multiplied Unsigned Eight b)
+    (pick (eqb lo 0x1) (divided Unsigned Eight b)
+    (pick (eqb lo 0x2) (multiplied Unsigned Sixteen b)
+    (pick (eqb lo 0x3) (divided Unsigned Sixteen b)
+    (pick (eqb lo 0x4) (rtsOf b)
     (pick (eqb lo 0x5) (Whole (Bsr (Near b)))
     (pick (eqb lo 0x8) (bcc16 b)
     (pick (eqb lo 0x9) (jmpReg b)
@@ -168,7 +179,7 @@ row5 lo b =
     (pick (eqb lo 0xC) (bsr16 b)
     (pick (eqb lo 0xD) (jsrReg b)
     (pick (eqb lo 0xE) (Lacks (Jsr24 b))
-    (pick (eqb lo 0xF) (Whole (Jsr (Vector b))) Nothing)))))))))
+    (pick (eqb lo 0xF) (Whole (Jsr (Vector b))) Nothing)))))))))))))
 
 abbrev pub absoluteOf : Width → Dir → ℕ → ℕ → Plan
 absoluteOf w dir e r =
@@ -255,6 +266,16 @@ after00 c d =
     (pick (eqb c 0x6D) (longMemory Stepping d)
     (pick (eqb c 0x6F) (longMemory Displaced d) Nothing)))
 
+abbrev pub afterC0 : ℕ → ℕ → Plan
+afterC0 c d =
+    pick (eqb c 0x50) (multiplied Signed Eight d)
+    (pick (eqb c 0x52) (multiplied Signed Sixteen d) Nothing)
+
+abbrev pub afterD0 : ℕ → ℕ → Plan
+afterD0 c d =
+    pick (eqb c 0x51) (divided Signed Eight d)
+    (pick (eqb c 0x53) (divided Signed Sixteen d) Nothing)
+
 abbrev pub afterF0 : ℕ → ℕ → Plan
 afterF0 c d =
     pick (eqb c 0x64) (longLogic Or d)
@@ -262,4 +283,8 @@ afterF0 c d =
     (pick (eqb c 0x66) (longLogic And d) Nothing))
 
 abbrev pub afterOf : ℕ → ℕ → ℕ → Plan
-afterOf b c d = pick (eqb b 0x00) (after00 c d) (pick (eqb b 0xF0) (afterF0 c d) Nothing)
+afterOf b c d =
+    pick (eqb b 0x00) (after00 c d)
+    (pick (eqb b 0xC0) (afterC0 c d)
+    (pick (eqb b 0xD0) (afterD0 c d)
+    (pick (eqb b 0xF0) (afterF0 c d) Nothing)))

@@ -1,6 +1,6 @@
 // The forms that a word of a code can have: a whole instruction, one that lacks its last bytes, or nothing.
 ghost use mathlib.Core.Path.{_≡_};
-ghost use Rattle.decoder.specs.MirrorWords.{exactly, below, held, nopOf, stcOf, ldcOf, ccrOf, counted, stepped, turned, singleOf, rtsOf, bcc16, bsr16, jmpReg, jsrReg, imm16, imm32, regReg, longReg, incOrLong, decimalOrLong, absoluteOf, moveOf, memoryOf, firstOp, nextOp, longMemory, longLogic};
+ghost use Rattle.decoder.specs.MirrorWords.{exactly, below, held, nopOf, stcOf, ldcOf, ccrOf, counted, stepped, turned, singleOf, rtsOf, bcc16, bsr16, jmpReg, jsrReg, imm16, imm32, regReg, multiplied, divided, longReg, incOrLong, decimalOrLong, absoluteOf, moveOf, memoryOf, firstOp, nextOp, longMemory, longLogic};
 use arith::Width;
 use codes::By;
 use codes::Change;
@@ -8,11 +8,13 @@ use codes::Dir;
 use codes::Instruction;
 use codes::Op;
 use codes::Place;
+use codes::Sign;
 use codes::Single;
 use codes::Source;
 use codes::Target;
 use codes::Turn;
 use codes::Way;
+use products::Half;
 
 // What a code still lacks after its words.
 pub enum Rest {
@@ -96,6 +98,27 @@ pub fn reg_reg(op: Op, w: Width, b: u8) -> Plan
     ensures { λ r. ⌜ r ≡ regReg op w b ⌝ }
 {
     Plan::Whole(Instruction::Alu(op, w, Source::Reg(b / 16), b % 16))
+}
+
+// rs then rd, or rs then e
+pub fn multiply(sign: Sign, h: Half, b: u8) -> Plan
+    ensures { λ r. ⌜ r ≡ multiplied sign h b ⌝ }
+{
+    held(
+        products::product_width(h),
+        b % 16,
+        Plan::Whole(Instruction::Multiply(sign, h, b / 16, b % 16)),
+    )
+}
+
+pub fn divide(sign: Sign, h: Half, b: u8) -> Plan
+    ensures { λ r. ⌜ r ≡ divided sign h b ⌝ }
+{
+    held(
+        products::product_width(h),
+        b % 16,
+        Plan::Whole(Instruction::Divide(sign, h, b / 16, b % 16)),
+    )
 }
 
 // (8+e)e

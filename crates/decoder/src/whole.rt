@@ -154,6 +154,8 @@ fn prefix(b: u8) -> Found
 {
     match b {
         0x00 => Found::Cut,
+        0xC0 => Found::Cut,
+        0xD0 => Found::Cut,
         0xF0 => Found::Cut,
         _ => Found::Unlisted,
     }

@@ -1,6 +1,6 @@
 // What a word of a code says. The tables are document 01's, by digits.
 ghost use mathlib.Core.Path.{_≡_};
-ghost use Rattle.decoder.specs.MirrorWords.{incDecOf, shiftOf, unaryOf, row0, row1, row5, row6, row7, planOf, after00, afterF0, afterOf};
+ghost use Rattle.decoder.specs.MirrorWords.{incDecOf, shiftOf, unaryOf, row0, row1, row5, row6, row7, planOf, after00, afterC0, afterD0, afterF0, afterOf};
 use crate::plan;
 use crate::plan::Mode;
 use crate::plan::Plan;
@@ -13,11 +13,13 @@ use codes::Instruction;
 use codes::Op;
 use codes::Place;
 use codes::Reach;
+use codes::Sign;
 use codes::Single;
 use codes::Source;
 use codes::Target;
 use codes::Turn;
 use codes::Way;
+use products::Half;
 
 // 0B and 1B
 fn inc_dec(way: Way, b: u8) -> Plan
@@ -126,6 +128,10 @@ fn row_5(lo: u8, b: u8) -> Plan
     ensures { λ r. ⌜ r ≡ row5 lo b ⌝ }
 {
     match lo {
+        0x0 => plan::multiply(Sign::Unsigned, Half::Eight, b),
+        0x1 => plan::divide(Sign::Unsigned, Half::Eight, b),
+        0x2 => plan::multiply(Sign::Unsigned, Half::Sixteen, b),
+        0x3 => plan::divide(Sign::Unsigned, Half::Sixteen, b),
         0x4 => plan::rts(b),
         0x5 => Plan::Whole(Instruction::Bsr(Reach::Near(b))),
         0x8 => plan::bcc_16(b),
@@ -207,6 +213,28 @@ fn after_00(c: u8, d: u8) -> Plan
     }
 }
 
+// The word after 01C0
+fn after_c0(c: u8, d: u8) -> Plan
+    ensures { λ r. ⌜ r ≡ afterC0 c d ⌝ }
+{
+    match c {
+        0x50 => plan::multiply(Sign::Signed, Half::Eight, d),
+        0x52 => plan::multiply(Sign::Signed, Half::Sixteen, d),
+        _ => Plan::Nothing,
+    }
+}
+
+// The word after 01D0
+fn after_d0(c: u8, d: u8) -> Plan
+    ensures { λ r. ⌜ r ≡ afterD0 c d ⌝ }
+{
+    match c {
+        0x51 => plan::divide(Sign::Signed, Half::Eight, d),
+        0x53 => plan::divide(Sign::Signed, Half::Sixteen, d),
+        _ => Plan::Nothing,
+    }
+}
+
 // The word after 01F0
 fn after_f0(c: u8, d: u8) -> Plan
     ensures { λ r. ⌜ r ≡ afterF0 c d ⌝ }
@@ -225,6 +253,8 @@ pub fn second_word(b: u8, c: u8, d: u8) -> Plan
 {
     match b {
         0x00 => after_00(c, d),
+        0xC0 => after_c0(c, d),
+        0xD0 => after_d0(c, d),
         0xF0 => after_f0(c, d),
         _ => Plan::Nothing,
     }
