@@ -6,10 +6,11 @@ use native.Mathlib.Omega.{arith}
 use lib.Dec.{ltb}
 use borrow.Author.Tests.{ltb-true, ltb-false}
 use Rattle.encoder.specs.Names.{Width, Byte, Word, Long, Op, Add, Sub, Cmp, Mov, Addx, Subx, Or, Xor, And, Reg, Imm, By, One, Two, Four, Single}
-use Rattle.encoder.specs.Names.{Not, Neg, Extu, Exts, Place, At, Step, Disp, Abs8, Abs16, Abs24, Reach, Near, Far, Target, ByReg, Direct, Vector}
-use Rattle.encoder.specs.Names.{Instruction, Nop, Stc, LdcReg, Ccr, Alu, IncDec, AddsSubs, Decimal, Shift, Unary, Move, Bcc, Jmp, Bsr, Jsr, Rts}
+use Rattle.encoder.specs.Names.{Not, Neg, Extu, Exts, Half, Place, At, Step, Disp, Abs8, Abs16, Abs24, Reach, Near, Far, Target, ByReg, Direct, Vector}
+use Rattle.encoder.specs.Names.{Instruction, Nop, Stc, LdcReg, Ccr, Alu, IncDec, AddsSubs, Decimal, Shift, Unary, Multiply, Divide, Move, Bcc, Jmp, Bsr, Jsr, Rts}
+use Rattle.products.specs.Products.{factorWidth, productWidth}
 use Rattle.codes.specs.Valid.{Digit, Number, IsByte, NotByte, HasReg, HasImm, HasBy, HasUnary, HasPlace, HasReach, HasTarget, Valid}
-use Rattle.encoder.specs.MirrorValid.{digitOk, numberOk, isByte, notByte, hasReg, hasImm, hasBy, hasUnary, hasPlace, hasReach, hasTarget}
+use Rattle.encoder.specs.MirrorValid.{digitOk, numberOk, isByte, notByte, hasReg, hasImm, hasBy, hasUnary, hasProduct, hasPlace, hasReach, hasTarget}
 use Rattle.encoder.specs.MirrorValid.{validOf}
 use mathlib.Core.Bool.{_&&_}
 
@@ -89,6 +90,11 @@ says-unary Neg w = tt
 says-unary Extu w = says-not w
 says-unary Exts w = says-not w
 
+says-product : (h : Half) (s d : ℕ) → Says (hasProduct h s d) (Digit (factorWidth h) s × Digit (productWidth h) d)
+says-product h s d =
+    says2 (Digit (factorWidth h) s) (Digit (productWidth h) d) (digitOk (factorWidth h) s) (digitOk (productWidth h) d)
+    (says-digit (factorWidth h) s) (says-digit (productWidth h) d)
+
 says-place : (w : Width) (p : Place) → Says (hasPlace w p) (HasPlace w p)
 says-place w (At e) = says< e 8
 says-place w (Step e) = says< e 8
@@ -121,6 +127,8 @@ says-valid (AddsSubs way by e) = says< e 8
 says-valid (Decimal way r) = says< r 16
 says-valid (Shift turn w r) = says-digit w r
 says-valid (Unary single w r) = says2 (HasUnary single w) (Digit w r) (hasUnary single w) (digitOk w r) (says-unary single w) (says-digit w r)
+says-valid (Multiply sign h s d) = says-product h s d
+says-valid (Divide sign h s d) = says-product h s d
 says-valid (Move dir w p r) = says2 (HasPlace w p) (Digit w r) (hasPlace w p) (digitOk w r) (says-place w p) (says-digit w r)
 says-valid (Bcc c reach) = says2 (c < 16) (HasReach reach) (ltb c 16) (hasReach reach) (says< c 16) (says-reach reach)
 says-valid (Jmp target) = says-target target

@@ -4,9 +4,9 @@ use mathlib.Core.Path.{_≡_, refl}
 use mathlib.Core.List.{List, [], _∷_, _++_}
 use native.Mathlib.Omega.{arith}
 use Rattle.encoder.specs.Names.{Width, Byte, Word, Long, Op, Add, Sub, Cmp, Mov, Addx, Subx, Or, Xor, And, Reg, Imm, Turn, Shll, Shlr, Rotxl}
-use Rattle.encoder.specs.Names.{Rotxr, Shal, Shar, Rotl, Rotr, Not, Neg, Extu, Exts, Dir, Place, At, Step, Disp, Abs8, Abs16, Abs24, Near, Far}
-use Rattle.encoder.specs.Names.{ByReg, Direct, Vector, Instruction, Nop, Stc, LdcReg, Ccr, Alu, IncDec, AddsSubs, Decimal, Shift, Unary, Move}
-use Rattle.encoder.specs.Names.{Bcc, Jmp, Bsr, Jsr, Rts, Prefix, Bare, P0100, P01F0, Tail, NoTail, Tail16, Tail32, Parts}
+use Rattle.encoder.specs.Names.{Rotxr, Shal, Shar, Rotl, Rotr, Not, Neg, Extu, Exts, Unsigned, Signed, Dir, Place, At, Step, Disp, Abs8, Abs16, Abs24, Near, Far}
+use Rattle.encoder.specs.Names.{ByReg, Direct, Vector, Instruction, Nop, Stc, LdcReg, Ccr, Alu, IncDec, AddsSubs, Decimal, Shift, Unary, Multiply, Divide, Move}
+use Rattle.encoder.specs.Names.{Bcc, Jmp, Bsr, Jsr, Rts, Prefix, Bare, After01, Tail, NoTail, Tail16, Tail32, Parts}
 use Rattle.codes.specs.Code.{_·_, be16, be24, be32, dirDigit, codeOf}
 use Rattle.codes.specs.Valid.{HasReg, Valid}
 use Rattle.encoder.specs.MirrorParts.{partsOf}
@@ -18,8 +18,7 @@ tailBytes Tail32 v = be32 v
 
 abbrev pub prefixed : Prefix → List ℕ → List ℕ
 prefixed Bare s = s
-prefixed P0100 s = 0x01 ∷ 0x00 ∷ s
-prefixed P01F0 s = 0x01 ∷ 0xF0 ∷ s
+prefixed (After01 c) s = 0x01 ∷ c ∷ s
 
 -- the bytes of the parts
 abbrev pub render : Parts → List ℕ
@@ -124,6 +123,10 @@ code-is (Unary Not w r) v = refl
 code-is (Unary Neg w r) v = refl
 code-is (Unary Extu w r) v = refl
 code-is (Unary Exts w r) v = refl
+code-is (Multiply Unsigned h s d) v = refl
+code-is (Multiply Signed h s d) v = refl
+code-is (Divide Unsigned h s d) v = refl
+code-is (Divide Signed h s d) v = refl
 code-is (Move dir w p r) v = move-bytes dir w p r v
 code-is (Bcc c (Near d)) v = refl
 code-is (Bcc c (Far d)) v = refl

@@ -1,11 +1,11 @@
 -- The parts of a code, case by case as the code of `src/parts.rt` does. Nothing here is to be believed: `proofs/` shows that they are `codeOf`.
 use Prim.Native.Nat.{ℕ, _+_, _/_, _%_}
 use Rattle.encoder.specs.Names.{Width, Byte, Word, Long, Op, Add, Sub, Cmp, Mov, Addx, Subx, Or, Xor, And, Source, Reg, Imm, Way, By, Turn, Shll}
-use Rattle.encoder.specs.Names.{Shlr, Rotxl, Rotxr, Shal, Shar, Rotl, Rotr, Single, Not, Neg, Extu, Exts, Dir, Place, At, Step, Disp, Abs8}
+use Rattle.encoder.specs.Names.{Shlr, Rotxl, Rotxr, Shal, Shar, Rotl, Rotr, Single, Not, Neg, Extu, Exts, Sign, Unsigned, Signed, Dir, Place, At, Step, Disp, Abs8}
 use Rattle.encoder.specs.Names.{Abs16, Abs24, Reach, Near, Far, Target, ByReg, Direct, Vector, Instruction, Nop, Stc, LdcReg, Ccr, Alu, IncDec}
-use Rattle.encoder.specs.Names.{AddsSubs, Decimal, Shift, Unary, Move, Bcc, Jmp, Bsr, Jsr, Rts, Prefix, Bare, P0100, P01F0, Tail, NoTail, Tail16}
+use Rattle.encoder.specs.Names.{AddsSubs, Decimal, Shift, Unary, Multiply, Divide, Move, Bcc, Jmp, Bsr, Jsr, Rts, Prefix, Bare, After01, Tail, NoTail, Tail16}
 use Rattle.encoder.specs.Names.{Tail32, Parts}
-use Rattle.codes.specs.Code.{_·_, changeCode, wayDigit, addsDigit, wordDigit, longDigit, digit013, digit89B, extuDigit, extsDigit, firstDigit}
+use Rattle.codes.specs.Code.{_·_, changeCode, wayDigit, addsDigit, wordDigit, longDigit, digit013, digit89B, extuDigit, extsDigit, unsignedMultiply, unsignedDivide, firstDigit}
 use Rattle.codes.specs.Code.{nextDigit, dirDigit, abs8Digit}
 
 abbrev pub mk : Prefix → ℕ → ℕ → Tail → ℕ → Parts
@@ -43,9 +43,9 @@ longParts Cmp s d = mk1 0x1F ((8 + s) · d)
 longParts Mov s d = mk1 0x0F ((8 + s) · d)
 longParts Addx s d = mk1 0 0
 longParts Subx s d = mk1 0 0
-longParts Or s d = mk P01F0 0x64 (s · d) NoTail 0
-longParts Xor s d = mk P01F0 0x65 (s · d) NoTail 0
-longParts And s d = mk P01F0 0x66 (s · d) NoTail 0
+longParts Or s d = mk (After01 0xF0) 0x64 (s · d) NoTail 0
+longParts Xor s d = mk (After01 0xF0) 0x65 (s · d) NoTail 0
+longParts And s d = mk (After01 0xF0) 0x66 (s · d) NoTail 0
 
 abbrev pub regParts : Op → Width → ℕ → ℕ → Parts
 regParts op Byte s d = mk1 (byteCode op) (s · d)
@@ -82,6 +82,10 @@ unaryParts Neg w r = mk1 0x17 (digit89B w · r)
 unaryParts Extu w r = mk1 0x17 (extuDigit w · r)
 unaryParts Exts w r = mk1 0x17 (extsDigit w · r)
 
+abbrev pub productParts : Sign → ℕ → ℕ → ℕ → Parts
+productParts Unsigned c a b = mk1 a b
+productParts Signed c a b = mk (After01 c) a b NoTail 0
+
 abbrev pub placeParts : Prefix → ℕ → Dir → Place → ℕ → Parts
 placeParts prefix more dir (At e) r = mk prefix (0x68 + more) ((dirDigit dir + e) · r) NoTail 0
 placeParts prefix more dir (Abs8 a) r = mk prefix (abs8Digit dir · r) a NoTail 0
@@ -93,7 +97,7 @@ placeParts prefix more dir (Abs24 a) r = mk prefix (0x6A + more) ((dirDigit dir 
 abbrev pub moveParts : Dir → Width → Place → ℕ → Parts
 moveParts dir Byte p r = placeParts Bare 0 dir p r
 moveParts dir Word p r = placeParts Bare 1 dir p r
-moveParts dir Long p r = placeParts P0100 1 dir p r
+moveParts dir Long p r = placeParts (After01 0x00) 1 dir p r
 
 abbrev pub bccParts : ℕ → Reach → Parts
 bccParts c (Near d) = mk1 (4 · c) d
@@ -119,6 +123,8 @@ partsOf (AddsSubs way by e) = mk1 (wayDigit way · 0xB) (addsDigit by · e)
 partsOf (Decimal way r) = mk1 (wayDigit way · 0xF) (0 · r)
 partsOf (Shift turn w r) = shiftParts turn w r
 partsOf (Unary single w r) = unaryParts single w r
+partsOf (Multiply sign h s d) = productParts sign 0xC0 (unsignedMultiply h) (s · d)
+partsOf (Divide sign h s d) = productParts sign 0xD0 (unsignedDivide h) (s · d)
 partsOf (Move dir w p r) = moveParts dir w p r
 partsOf (Bcc c reach) = bccParts c reach
 partsOf (Jmp target) = targetParts 0 target

@@ -2,9 +2,10 @@
 use Prim.Native.Nat.{ℕ}
 use mathlib.Core.Bool.{Bool, true, false}
 use lib.Dec.{ltb}
+use Rattle.products.specs.Products.{factorWidth, productWidth}
 use Rattle.encoder.specs.Names.{Width, Byte, Word, Long, Op, Add, Sub, Cmp, Mov, Addx, Subx, Or, Xor, And, Source, Reg, Imm, By, One, Two, Four}
-use Rattle.encoder.specs.Names.{Single, Not, Neg, Extu, Exts, Place, At, Step, Disp, Abs8, Abs16, Abs24, Reach, Near, Far, Target, ByReg, Direct}
-use Rattle.encoder.specs.Names.{Vector, Instruction, Nop, Stc, LdcReg, Ccr, Alu, IncDec, AddsSubs, Decimal, Shift, Unary, Move, Bcc, Jmp, Bsr}
+use Rattle.encoder.specs.Names.{Single, Not, Neg, Extu, Exts, Half, Place, At, Step, Disp, Abs8, Abs16, Abs24, Reach, Near, Far, Target, ByReg, Direct}
+use Rattle.encoder.specs.Names.{Vector, Instruction, Nop, Stc, LdcReg, Ccr, Alu, IncDec, AddsSubs, Decimal, Shift, Unary, Multiply, Divide, Move, Bcc, Jmp, Bsr}
 use Rattle.encoder.specs.Names.{Jsr, Rts}
 use mathlib.Core.Bool.{_&&_}
 
@@ -61,6 +62,9 @@ hasUnary Neg w = true
 hasUnary Extu w = notByte w
 hasUnary Exts w = notByte w
 
+abbrev pub hasProduct : Half → ℕ → ℕ → Bool
+hasProduct h s d = digitOk (factorWidth h) s && digitOk (productWidth h) d
+
 abbrev pub hasPlace : Width → Place → Bool
 hasPlace w (At e) = ltb e 8
 hasPlace w (Step e) = ltb e 8
@@ -93,6 +97,8 @@ validOf (AddsSubs way by e) = ltb e 8
 validOf (Decimal way r) = ltb r 16
 validOf (Shift turn w r) = digitOk w r
 validOf (Unary single w r) = hasUnary single w && digitOk w r
+validOf (Multiply sign h s d) = hasProduct h s d
+validOf (Divide sign h s d) = hasProduct h s d
 validOf (Move dir w p r) = hasPlace w p && digitOk w r
 validOf (Bcc c reach) = ltb c 16 && hasReach reach
 validOf (Jmp target) = hasTarget target

@@ -13,6 +13,10 @@ pub use Rattle.codes.specs.declared.Turn.{Turn}
 pub use Rattle.codes.specs.declared.Turn.the-variants.{Shll, Shlr, Rotxl, Rotxr, Shal, Shar, Rotl, Rotr}
 pub use Rattle.codes.specs.declared.Single.{Single}
 pub use Rattle.codes.specs.declared.Single.the-variants.{Not, Neg, Extu, Exts}
+pub use Rattle.products.specs.declared.Half.{Half}
+pub use Rattle.products.specs.declared.Half.the-variants.{Eight, Sixteen}
+pub use Rattle.codes.specs.declared.Sign.{Sign}
+pub use Rattle.codes.specs.declared.Sign.the-variants.{Unsigned, Signed}
 pub use Rattle.codes.specs.declared.Change.{Change}
 pub use Rattle.codes.specs.declared.Change.the-variants.{Orc, Xorc, Andc, Ldc}
 pub use Rattle.codes.specs.declared.Dir.{Dir}
@@ -24,7 +28,7 @@ pub use Rattle.codes.specs.declared.Reach.the-variants.{Near, Far}
 pub use Rattle.codes.specs.declared.Target.{Target}
 pub use Rattle.codes.specs.declared.Target.the-variants.{ByReg, Direct, Vector}
 pub use Rattle.codes.specs.declared.Instruction.{Instruction}
-pub use Rattle.codes.specs.declared.Instruction.the-variants.{Nop, Stc, LdcReg, Ccr, Alu, IncDec, AddsSubs, Decimal, Shift, Unary, Move, Bcc, Jmp, Bsr, Jsr, Rts}
+pub use Rattle.codes.specs.declared.Instruction.the-variants.{Nop, Stc, LdcReg, Ccr, Alu, IncDec, AddsSubs, Decimal, Shift, Unary, Multiply, Divide, Move, Bcc, Jmp, Bsr, Jsr, Rts}
 pub use Rattle.codes.specs.declared.Goes.{Goes}
 pub use Rattle.codes.specs.declared.Goes.the-variants.{Onward, Branches, Jumps, CallsNear, Calls, Returns}
 pub use Rattle.codes.specs.declared.Decoded.{Decoded}
@@ -35,7 +39,7 @@ pub use Rattle.refusal.specs.declared.Refusal.{Refusal}
 pub use Rattle.refusal.specs.declared.Refusal.the-variants.{UnknownCode, CutShort, NotInstruction, LentTooShort}
 -- and of the encoder's own parts
 pub use Rattle.encoder.specs.declared.parts.Prefix.{Prefix}
-pub use Rattle.encoder.specs.declared.parts.Prefix.the-variants.{Bare, P0100, P01F0}
+pub use Rattle.encoder.specs.declared.parts.Prefix.the-variants.{Bare, After01}
 pub use Rattle.encoder.specs.declared.parts.Tail.{Tail}
 pub use Rattle.encoder.specs.declared.parts.Tail.the-variants.{NoTail, Tail16, Tail32}
 pub use Rattle.encoder.specs.declared.parts.Parts.{Parts}

@@ -2,7 +2,7 @@
 ghost use mathlib.Core.Path.{_≡_};
 ghost use Prim.Native.Nat.{_+_, _<_};
 ghost use Rattle.codes.specs.Code.{_·_};
-ghost use Rattle.encoder.specs.MirrorParts.{mk, mk1, longParts, regParts, immParts, aluParts, incDecParts, shiftParts, unaryParts, placeParts, moveParts, bccParts, targetParts, bsrParts, partsOf};
+ghost use Rattle.encoder.specs.MirrorParts.{mk, mk1, longParts, regParts, immParts, aluParts, incDecParts, shiftParts, unaryParts, productParts, placeParts, moveParts, bccParts, targetParts, bsrParts, partsOf};
 use crate::tables;
 use arith::Width;
 use codes::By;
@@ -12,17 +12,17 @@ use codes::Instruction;
 use codes::Op;
 use codes::Place;
 use codes::Reach;
+use codes::Sign;
 use codes::Single;
 use codes::Source;
 use codes::Target;
 use codes::Turn;
 use codes::Way;
 
-// What stands before the first word.
+// What stands before the word: nothing, or 01 and a byte.
 pub enum Prefix {
     Bare,
-    P0100,
-    P01F0,
+    After01(u32),
 }
 
 // What follows the word: nothing, or a number of 16 or of 32 bits.
@@ -90,9 +90,9 @@ fn long_parts(op: Op, s: u8, d: u8) -> Parts
         Op::Mov => one(0x0F, raised(8, s, d)),
         Op::Addx => one(0, 0),
         Op::Subx => one(0, 0),
-        Op::Or => made(Prefix::P01F0, 0x64, digits(s, d), Tail::NoTail, 0),
-        Op::Xor => made(Prefix::P01F0, 0x65, digits(s, d), Tail::NoTail, 0),
-        Op::And => made(Prefix::P01F0, 0x66, digits(s, d), Tail::NoTail, 0),
+        Op::Or => made(Prefix::After01(0xF0), 0x64, digits(s, d), Tail::NoTail, 0),
+        Op::Xor => made(Prefix::After01(0xF0), 0x65, digits(s, d), Tail::NoTail, 0),
+        Op::And => made(Prefix::After01(0xF0), 0x66, digits(s, d), Tail::NoTail, 0),
     }
 }
 
@@ -179,6 +179,16 @@ fn unary_parts(single: Single, w: Width, r: u8) -> Parts
     }
 }
 
+// MULXS and DIVXS have 01 and the byte c before the word of MULXU and DIVXU.
+fn product_parts(sign: Sign, c: u32, a: u32, b: u32) -> Parts
+    ensures { λ h. ⌜ h ≡ productParts sign c a b ⌝ }
+{
+    match sign {
+        Sign::Unsigned => one(a, b),
+        Sign::Signed => made(Prefix::After01(c), a, b, Tail::NoTail, 0),
+    }
+}
+
 // The first byte for a byte, and 1 more for a word or a long
 fn place_parts(prefix: Prefix, more: u8, dir: Dir, p: Place, r: u8) -> Parts
     ensures { λ h. ⌜ h ≡ placeParts prefix more dir p r ⌝ }
@@ -218,7 +228,7 @@ fn move_parts(dir: Dir, w: Width, p: Place, r: u8) -> Parts
     match w {
         Width::Byte => place_parts(Prefix::Bare, 0, dir, p, r),
         Width::Word => place_parts(Prefix::Bare, 1, dir, p, r),
-        Width::Long => place_parts(Prefix::P0100, 1, dir, p, r),
+        Width::Long => place_parts(Prefix::After01(0x00), 1, dir, p, r),
     }
 }
 
@@ -274,6 +284,18 @@ pub fn parts_of(i: Instruction) -> Parts
         Instruction::Decimal(way, r) => one(digits(tables::way_digit(way), 0xF), digits(0, r)),
         Instruction::Shift(turn, w, r) => shift_parts(turn, w, r),
         Instruction::Unary(single, w, r) => unary_parts(single, w, r),
+        Instruction::Multiply(sign, h, s, d) => product_parts(
+            sign,
+            0xC0,
+            tables::unsigned_multiply(h),
+            digits(s, d),
+        ),
+        Instruction::Divide(sign, h, s, d) => product_parts(
+            sign,
+            0xD0,
+            tables::unsigned_divide(h),
+            digits(s, d),
+        ),
         Instruction::Move(dir, w, p, r) => move_parts(dir, w, p, r),
         Instruction::Bcc(c, reach) => bcc_parts(c, reach),
         Instruction::Jmp(target) => target_parts(0, target),

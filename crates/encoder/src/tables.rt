@@ -1,6 +1,6 @@
 // The bytes and digits of the code list's tables, in its order. Where there is no code they have 0.
 ghost use mathlib.Core.Path.{_≡_};
-ghost use Rattle.codes.specs.Code.{changeCode, wayDigit, addsDigit, wordDigit, longDigit, digit013, digit89B, extuDigit, extsDigit, firstDigit, nextDigit, dirDigit, abs8Digit};
+ghost use Rattle.codes.specs.Code.{changeCode, wayDigit, addsDigit, wordDigit, longDigit, digit013, digit89B, extuDigit, extsDigit, unsignedMultiply, unsignedDivide, firstDigit, nextDigit, dirDigit, abs8Digit};
 ghost use Rattle.encoder.specs.MirrorParts.{byteCode, wordCode};
 use arith::Width;
 use codes::By;
@@ -8,6 +8,7 @@ use codes::Change;
 use codes::Dir;
 use codes::Op;
 use codes::Way;
+use products::Half;
 
 pub fn change_code(change: Change) -> u32
     ensures { λ r. ⌜ r ≡ changeCode change ⌝ }
@@ -160,6 +161,24 @@ pub fn exts_digit(w: Width) -> u8
         Width::Byte => 0,
         Width::Word => 0xD,
         Width::Long => 0xF,
+    }
+}
+
+pub fn unsigned_multiply(h: Half) -> u32
+    ensures { λ r. ⌜ r ≡ unsignedMultiply h ⌝ }
+{
+    match h {
+        Half::Eight => 0x50,
+        Half::Sixteen => 0x52,
+    }
+}
+
+pub fn unsigned_divide(h: Half) -> u32
+    ensures { λ r. ⌜ r ≡ unsignedDivide h ⌝ }
+{
+    match h {
+        Half::Eight => 0x51,
+        Half::Sixteen => 0x53,
     }
 }
 

@@ -1,7 +1,7 @@
 // Whether each field of an instruction is in range: document 01's refusal 11. The tests are those of `Valid`, in its order.
 ghost use mathlib.Core.Path.{_≡_};
 ghost use lib.Dec.{ltb};
-ghost use Rattle.encoder.specs.MirrorValid.{digitOk, numberOk, isByte, notByte, hasReg, hasImm, hasBy, hasUnary, hasPlace, hasReach, hasTarget, hasAlu, validOf};
+ghost use Rattle.encoder.specs.MirrorValid.{digitOk, numberOk, isByte, notByte, hasReg, hasImm, hasBy, hasUnary, hasProduct, hasPlace, hasReach, hasTarget, hasAlu, validOf};
 use arith::Width;
 use codes::By;
 use codes::Instruction;
@@ -11,6 +11,7 @@ use codes::Reach;
 use codes::Single;
 use codes::Source;
 use codes::Target;
+use products::Half;
 
 // Tests that the type makes true: the promise speaks of numbers of any size.
 fn byte_ok(v: u8) -> bool
@@ -124,6 +125,12 @@ fn has_unary(single: Single, w: Width) -> bool
     }
 }
 
+fn has_product(h: Half, s: u8, d: u8) -> bool
+    ensures { λ k. ⌜ k ≡ hasProduct h s d ⌝ }
+{
+    digit_ok(products::factor_width(h), s) & digit_ok(products::product_width(h), d)
+}
+
 fn has_place(w: Width, p: Place) -> bool
     ensures { λ k. ⌜ k ≡ hasPlace w p ⌝ }
 {
@@ -179,6 +186,8 @@ pub fn valid(i: Instruction) -> bool
         Instruction::Decimal(_, r) => r < 16,
         Instruction::Shift(_, w, r) => digit_ok(w, r),
         Instruction::Unary(single, w, r) => has_unary(single, w) & digit_ok(w, r),
+        Instruction::Multiply(_, h, s, d) => has_product(h, s, d),
+        Instruction::Divide(_, h, s, d) => has_product(h, s, d),
         Instruction::Move(_, w, p, r) => has_place(w, p) & digit_ok(w, r),
         Instruction::Bcc(c, reach) => (c < 16) & has_reach(reach),
         Instruction::Jmp(target) => has_target(target),

@@ -31,8 +31,7 @@ fn start_of(prefix: Prefix) -> u8
 {
     match prefix {
         Prefix::Bare => 0,
-        Prefix::P0100 => 2,
-        Prefix::P01F0 => 2,
+        Prefix::After01(_) => 2,
     }
 }
 
@@ -60,8 +59,7 @@ fn put_prefix(out: &mut [u8], prefix: Prefix)
 {
     match prefix {
         Prefix::Bare => {}
-        Prefix::P0100 => put2(out, 0, 0x01, 0x00),
-        Prefix::P01F0 => put2(out, 0, 0x01, 0xF0),
+        Prefix::After01(c) => put2(out, 0, 0x01, c),
     }
 }
 

@@ -5,14 +5,8 @@ use Rattle.encoder.proofs.parts.parts_of.Tie as tie
 pub parts-of-spec : {M : Type 1} → statement M
 parts-of-spec =
     tie.close
-    (tie.spec (λ c. search needs) (λ c κs. search needs) (λ c. search needs) (λ c κs. search needs) (λ c κs. search needs)
-    (λ c. search needs) (λ c κs. search needs) (λ c κs. search needs) (λ c. search needs) (λ c κs. search needs) (λ c κs. search needs)
-    (λ c κs. search needs) (λ c. search needs) (λ c κs. search needs) (λ c. search needs) (λ c κs. search needs) (λ c. search needs)
-    (λ c κs. search needs) (λ c κs. search needs) (λ c κs. search needs) (λ c κs. search needs) (λ c κs. search needs) (λ c. search needs)
-    (λ c κs. search needs) (λ c κs. search needs) (λ c κs. search needs) (λ c κs. search needs) (λ c. search needs) (λ c κs. search needs)
-    (λ c. search needs) (λ c κs. search needs) (λ c. search needs) (λ c κs. search needs) (λ c. search needs) (λ c κs. search needs)
-    (λ c. search needs) (λ c κs. search needs) (λ c. search needs) (λ c κs. search needs) (λ c. search needs) (λ c κs. search needs)
-    (λ c. search needs) (λ c κs. search needs) (λ c. simp (c .before .enum-told .given .1, c .one .ensures))
+    (tie.spec (λ c. search needs) (λ c κs. search needs) (λ c. search needs) (λ c κs. search needs) (λ c κs. search needs) (λ c. search needs) (λ c κs. search needs) (λ c κs. search needs) (λ c. search needs) (λ c κs. search needs) (λ c κs. search needs) (λ c κs. search needs) (λ c. search needs) (λ c κs. search needs) (λ c. search needs) (λ c κs. search needs) (λ c. search needs) (λ c κs. search needs) (λ c κs. search needs) (λ c κs. search needs) (λ c κs. search needs) (λ c κs. search needs) (λ c. search needs) (λ c κs. search needs) (λ c κs. search needs) (λ c κs. search needs) (λ c κs. search needs) (λ c. search needs) (λ c κs. search needs) (λ c. search needs) (λ c κs. search needs) (λ c. search needs) (λ c κs. search needs) (λ c κs. search needs) (λ c κs. search needs) (λ c. search needs) (λ c κs. search needs) (λ c κs. search needs) (λ c κs. search needs) (λ c. search needs) (λ c κs. search needs) (λ c. search needs) (λ c κs. search needs) (λ c. search needs) (λ c κs. search needs) (λ c. search needs) (λ c κs. search needs) (λ c. search needs) (λ c κs. search needs) (λ c. search needs) (λ c κs. search needs)
+    (λ c. simp (c .before .enum-told .given .1, c .one .ensures))
     (λ c. simp (c .before .before .before .i .given .1, c .one2 .ensures, c .before .digits .ensures))
     (λ c. simp (c .before .before .before .i2 .given .1, c .one3 .ensures, c .before .digits2 .ensures))
     (λ c. simp (
@@ -40,9 +34,21 @@ parts-of-spec =
     ))
     (λ c. simp (c .before .before .i8 .given .1, c .shift-parts .ensures))
     (λ c. simp (c .before .before .i9 .given .1, c .unary-parts .ensures))
-    (λ c. simp (c .before .before .i10 .given .1, c .move-parts .ensures))
-    (λ c. simp (c .before .before .i11 .given .1, c .bcc-parts .ensures))
-    (λ c. simp (c .before .before .i12 .given .1, c .target-parts .ensures))
-    (λ c. simp (c .before .before .i13 .given .1, c .bsr-parts .ensures))
-    (λ c. simp (c .before .before .i14 .given .1, c .target-parts2 .ensures))
+    (λ c. simp (
+      c .before .before .before .before .i10 .given .1,
+      c .product-parts .ensures,
+      c .before .digits7 .ensures,
+      c .before .before .unsigned-multiply .ensures,
+    ))
+    (λ c. simp (
+      c .before .before .before .before .i11 .given .1,
+      c .product-parts2 .ensures,
+      c .before .digits8 .ensures,
+      c .before .before .unsigned-divide .ensures,
+    ))
+    (λ c. simp (c .before .before .i12 .given .1, c .move-parts .ensures))
+    (λ c. simp (c .before .before .i13 .given .1, c .bcc-parts .ensures))
+    (λ c. simp (c .before .before .i14 .given .1, c .target-parts .ensures))
+    (λ c. simp (c .before .before .i15 .given .1, c .bsr-parts .ensures))
+    (λ c. simp (c .before .before .i16 .given .1, c .target-parts2 .ensures))
     (λ c. simp (c .before .enum-told2 .given .1, c .one7 .ensures)))

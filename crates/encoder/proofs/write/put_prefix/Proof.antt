@@ -8,12 +8,7 @@ put-prefix-spec =
     tie.close
     (tie.spec (λ c. search needs) (λ c. search needs) (λ c κs. omega (
       arith,
-      rw (c .before .enum-told2 .given .1) at (c .before .before .before .before .pre),
-    )) (λ c. search needs) (λ c κs. omega (
-      arith,
-      rw (c .before .enum-told3 .given .1) at (c .before .before .before .before .pre),
+      rw (c .before .before .prefix .given .1) at (c .before .before .before .before .before .pre),
     ))
     (λ c. rw (c .enum-told .given .1)) (λ c. search needs)
-    (λ c. simp (c .before .before .before .before .enum-told2 .given .1, c .before .before .put2 .ensures))
-    (λ c. search needs)
-    (λ c. simp (c .before .before .before .before .enum-told3 .given .1, c .before .before .put22 .ensures)))
+    (λ c. simp (c .before .before .before .before .before .prefix .given .1, c .before .before .put2 .ensures)))
