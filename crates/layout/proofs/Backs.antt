@@ -2,9 +2,10 @@
 use mathlib.Core.Path.{_≡_, refl}
 use Rattle.layout.specs.Names.{Width, Byte, Word, Long, Change, Orc, Xorc, Andc, Ldc, Op, Add, Sub, Cmp, Mov, Addx, Subx, Or, Xor, And, Way, Up}
 use Rattle.layout.specs.Names.{Down, By, One, Two, Four, Turn, Shll, Shlr, Rotxl, Rotxr, Shal, Shar, Rotl, Rotr, Single, Not, Neg, Extu, Exts}
-use Rattle.layout.specs.Names.{Dir, Load, Store}
-use Rattle.layout.specs.Choices.{widthNumber, changeNumber, opNumber, wayNumber, byNumber, turnNumber, singleNumber, dirNumber}
-use Rattle.layout.specs.MirrorChoices.{widthAt, changeAt, opAt, wayAt, byAt, turnAt, singleAt, dirAt}
+use Rattle.layout.specs.Names.{Dir, Load, Store, Sign, Unsigned, Signed, Half, Eight, Sixteen}
+use Rattle.products.specs.Products.{factorWidth}
+use Rattle.layout.specs.Choices.{widthNumber, changeNumber, opNumber, wayNumber, byNumber, turnNumber, singleNumber, dirNumber, signNumber}
+use Rattle.layout.specs.MirrorChoices.{widthAt, changeAt, opAt, wayAt, byAt, turnAt, singleAt, dirAt, signAt, halfAt}
 
 pub width-back : (w : Width) → widthAt (widthNumber w) ≡ w
 unfolding widthAt
@@ -64,3 +65,13 @@ pub dir-back : (dir : Dir) → dirAt (dirNumber dir) ≡ dir
 unfolding dirAt
 dir-back Load = refl
 dir-back Store = refl
+
+pub sign-back : (sign : Sign) → signAt (signNumber sign) ≡ sign
+unfolding signAt
+sign-back Unsigned = refl
+sign-back Signed = refl
+
+pub half-back : (h : Half) → halfAt (widthNumber (factorWidth h)) ≡ h
+unfolding halfAt
+half-back Eight = refl
+half-back Sixteen = refl

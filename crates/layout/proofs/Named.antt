@@ -8,7 +8,8 @@ use lib.Dec.{eqb}
 use lib.ListN.{length, take}
 use borrow.Author.Tests.{eq-eqb, eqb-true}
 use Rattle.layout.specs.Names.{Width, Byte, Word, Long, Source, Reg, Imm, Place, At, Step, Disp, Abs8, Abs16, Abs24, Reach, Near, Far, Target, ByReg, Direct, Vector}
-use Rattle.layout.specs.Names.{Instruction, Nop, Stc, LdcReg, Ccr, Alu, IncDec, AddsSubs, Decimal, Shift, Unary, Move, Bcc, Jmp, Bsr, Jsr, Rts}
+use Rattle.layout.specs.Names.{Instruction, Nop, Stc, LdcReg, Ccr, Alu, IncDec, AddsSubs, Decimal, Shift, Unary, Multiply, Divide, Move, Bcc, Jmp, Bsr, Jsr, Rts}
+use Rattle.products.specs.Products.{factorWidth, productWidth}
 use Rattle.codes.specs.Valid.{Valid, Digit, HasPlace, HasReach, HasTarget}
 use Rattle.layout.specs.declared.rows.Row.{Row}
 use Rattle.layout.specs.declared.rows.Named.{Named}
@@ -16,7 +17,7 @@ use Rattle.layout.specs.declared.rows.Named.the-variants.{Names, NamesNo
 use Rattle.layout.specs.Rows.{rowOf, sourceRow, placeRow, reachRow, targetRow, seven}
 use Rattle.layout.specs.MirrorRows.{sourceAt, placeAt, reachAt, targetAt, readRow, sameOf, namedOf}
 use Rattle.layout.specs.MirrorLent.{rowIn}
-use Rattle.layout.proofs.Backs.{width-back, change-back, op-back, way-back, by-back, turn-back, single-back, dir-back}
+use Rattle.layout.proofs.Backs.{width-back, change-back, op-back, way-back, by-back, turn-back, single-back, dir-back, sign-back, half-back}
 
 digit-back : (w : Width) (r : ℕ) → Digit w r → r % 256 ≡ r
 digit-back Byte r h = omega arith
@@ -60,6 +61,8 @@ read-back (AddsSubs way by d) v = rw (way-back way, by-back by, small d (omega a
 read-back (Decimal way d) v = rw (way-back way, small d v)
 read-back (Shift turn w d) v = rw (turn-back turn, width-back w, digit-back w d v)
 read-back (Unary single w d) (h, k) = rw (single-back single, width-back w, digit-back w d k)
+read-back (Multiply sign h s d) (j, k) = rw (sign-back sign, half-back h, digit-back (factorWidth h) s j, digit-back (productWidth h) d k)
+read-back (Divide sign h s d) (j, k) = rw (sign-back sign, half-back h, digit-back (factorWidth h) s j, digit-back (productWidth h) d k)
 read-back (Move dir w p d) (h, k) = rw (dir-back dir, width-back w, place-back w p h, digit-back w d k)
 read-back (Bcc c reach) (h, k) = rw (small c h, reach-back reach k)
 read-back (Jmp target) v = ap Jmp (target-back target v)

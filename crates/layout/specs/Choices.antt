@@ -2,7 +2,7 @@
 use Prim.Native.Nat.{ℕ}
 use Rattle.layout.specs.Names.{Width, Byte, Word, Long, Change, Orc, Xorc, Andc, Ldc, Op, Add, Sub, Cmp, Mov, Addx, Subx, Or, Xor, And, Way, Up}
 use Rattle.layout.specs.Names.{Down, By, One, Two, Four, Turn, Shll, Shlr, Rotxl, Rotxr, Shal, Shar, Rotl, Rotr, Single, Not, Neg, Extu, Exts}
-use Rattle.layout.specs.Names.{Dir, Load, Store}
+use Rattle.layout.specs.Names.{Dir, Load, Store, Sign, Unsigned, Signed}
 
 -- enum h8_width
 abbrev pub widthNumber : Width → ℕ
@@ -62,3 +62,8 @@ singleNumber Exts = 3
 abbrev pub dirNumber : Dir → ℕ
 dirNumber Load = 0
 dirNumber Store = 1
+
+-- enum h8_sign: MULXU, DIVXU; or MULXS, DIVXS
+abbrev pub signNumber : Sign → ℕ
+signNumber Unsigned = 0
+signNumber Signed = 1

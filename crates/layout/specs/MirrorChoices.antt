@@ -4,7 +4,7 @@ use mathlib.Core.Bool.{cond}
 use lib.Dec.{eqb}
 use Rattle.layout.specs.Names.{Width, Byte, Word, Long, Change, Orc, Xorc, Andc, Ldc, Op, Add, Sub, Cmp, Mov, Addx, Subx, Or, Xor, And, Way, Up}
 use Rattle.layout.specs.Names.{Down, By, One, Two, Four, Turn, Shll, Shlr, Rotxl, Rotxr, Shal, Shar, Rotl, Rotr, Single, Not, Neg, Extu, Exts}
-use Rattle.layout.specs.Names.{Dir, Load, Store}
+use Rattle.layout.specs.Names.{Dir, Load, Store, Sign, Unsigned, Signed, Half, Eight, Sixteen}
 
 unfoldable pub widthAt : ℕ → Width
 widthAt n = cond (eqb n 0) Byte (cond (eqb n 1) Word Long)
@@ -29,3 +29,10 @@ singleAt n = cond (eqb n 0) Not (cond (eqb n 1) Neg (cond (eqb n 2) Extu Exts))
 
 unfoldable pub dirAt : ℕ → Dir
 dirAt n = cond (eqb n 0) Load Store
+
+unfoldable pub signAt : ℕ → Sign
+signAt n = cond (eqb n 0) Unsigned Signed
+
+-- by the width of a factor and a divisor
+unfoldable pub halfAt : ℕ → Half
+halfAt n = cond (eqb n 0) Eight Sixteen

@@ -3,11 +3,11 @@ use Prim.Native.Nat.{ℕ, _%_}
 use mathlib.Core.Bool.{Bool, cond, _&&_}
 use lib.Dec.{eqb}
 use Rattle.layout.specs.Names.{Source, Reg, Imm, Place, At, Step, Disp, Abs8, Abs16, Abs24, Reach, Near, Far, Target, ByReg, Direct, Vector}
-use Rattle.layout.specs.Names.{Instruction, Nop, Stc, LdcReg, Ccr, Alu, IncDec, AddsSubs, Decimal, Shift, Unary, Move, Bcc, Jmp, Bsr, Jsr, Rts}
+use Rattle.layout.specs.Names.{Instruction, Nop, Stc, LdcReg, Ccr, Alu, IncDec, AddsSubs, Decimal, Shift, Unary, Multiply, Divide, Move, Bcc, Jmp, Bsr, Jsr, Rts}
 use Rattle.layout.specs.declared.rows.Row.{Row}
 use Rattle.layout.specs.declared.rows.Named.{Named}
 use Rattle.layout.specs.declared.rows.Named.the-variants.{Names, NamesNone}
-use Rattle.layout.specs.MirrorChoices.{widthAt, changeAt, opAt, wayAt, byAt, turnAt, singleAt, dirAt}
+use Rattle.layout.specs.MirrorChoices.{widthAt, changeAt, opAt, wayAt, byAt, turnAt, singleAt, dirAt, signAt, halfAt}
 use Rattle.layout.specs.Rows.{rowOf}
 
 unfoldable pub sourceAt : ℕ → ℕ → ℕ → Source
@@ -45,7 +45,9 @@ readRow f =
     (cond (eqb (f .kind) 12) (Jmp (targetAt (f .form) (f .other) (f .value)))
     (cond (eqb (f .kind) 13) (Bsr (reachAt (f .form) (f .value)))
     (cond (eqb (f .kind) 14) (Jsr (targetAt (f .form) (f .other) (f .value)))
-    Rts))))))))))))))
+    (cond (eqb (f .kind) 15) Rts
+    (cond (eqb (f .kind) 16) (Multiply (signAt (f .which)) (halfAt (f .width)) (f .other % 256) (f .reg % 256))
+    (Divide (signAt (f .which)) (halfAt (f .width)) (f .other % 256) (f .reg % 256))))))))))))))))))
 
 unfoldable pub sameOf : Row → Row → Bool
 sameOf f g =

@@ -13,6 +13,10 @@ pub use Rattle.codes.specs.declared.Turn.{Turn}
 pub use Rattle.codes.specs.declared.Turn.the-variants.{Shll, Shlr, Rotxl, Rotxr, Shal, Shar, Rotl, Rotr}
 pub use Rattle.codes.specs.declared.Single.{Single}
 pub use Rattle.codes.specs.declared.Single.the-variants.{Not, Neg, Extu, Exts}
+pub use Rattle.products.specs.declared.Half.{Half}
+pub use Rattle.products.specs.declared.Half.the-variants.{Eight, Sixteen}
+pub use Rattle.codes.specs.declared.Sign.{Sign}
+pub use Rattle.codes.specs.declared.Sign.the-variants.{Unsigned, Signed}
 pub use Rattle.codes.specs.declared.Change.{Change}
 pub use Rattle.codes.specs.declared.Change.the-variants.{Orc, Xorc, Andc, Ldc}
 pub use Rattle.codes.specs.declared.Dir.{Dir}
@@ -24,7 +28,7 @@ pub use Rattle.codes.specs.declared.Reach.the-variants.{Near, Far}
 pub use Rattle.codes.specs.declared.Target.{Target}
 pub use Rattle.codes.specs.declared.Target.the-variants.{ByReg, Direct, Vector}
 pub use Rattle.codes.specs.declared.Instruction.{Instruction}
-pub use Rattle.codes.specs.declared.Instruction.the-variants.{Nop, Stc, LdcReg, Ccr, Alu, IncDec, AddsSubs, Decimal, Shift, Unary, Move, Bcc, Jmp, Bsr, Jsr, Rts}
+pub use Rattle.codes.specs.declared.Instruction.the-variants.{Nop, Stc, LdcReg, Ccr, Alu, IncDec, AddsSubs, Decimal, Shift, Unary, Multiply, Divide, Move, Bcc, Jmp, Bsr, Jsr, Rts}
 pub use Rattle.codes.specs.declared.Goes.{Goes}
 pub use Rattle.codes.specs.declared.Goes.the-variants.{Onward, Branches, Jumps, CallsNear, Calls, Returns}
 pub use Rattle.codes.specs.declared.Decoded.{Decoded}

@@ -1,13 +1,14 @@
 -- host/h8.h, "AN INSTRUCTION": the first seven numbers of each instruction, KIND WHICH WIDTH FORM OTHER VALUE REG. Numbers that a kind does not use are 0.
 use Prim.Native.Nat.{ℕ}
 use mathlib.Core.List.{List, [], _∷_, _++_}
-use Rattle.layout.specs.Names.{Source, Reg, Imm, By, Place, At, Step, Disp, Abs8, Abs16, Abs24, Reach, Near, Far, Target, ByReg, Direct, Vector}
-use Rattle.layout.specs.Names.{Instruction, Nop, Stc, LdcReg, Ccr, Alu, IncDec, AddsSubs, Decimal, Shift, Unary, Move, Bcc, Jmp, Bsr, Jsr, Rts}
+use Rattle.layout.specs.Names.{Source, Reg, Imm, By, Half, Sign, Place, At, Step, Disp, Abs8, Abs16, Abs24, Reach, Near, Far, Target, ByReg, Direct, Vector}
+use Rattle.layout.specs.Names.{Instruction, Nop, Stc, LdcReg, Ccr, Alu, IncDec, AddsSubs, Decimal, Shift, Unary, Multiply, Divide, Move, Bcc, Jmp, Bsr, Jsr, Rts}
+use Rattle.products.specs.Products.{factorWidth}
 use Rattle.codes.specs.Code.{lengthOf}
 use Rattle.codes.specs.States.{statesOf}
 use Rattle.layout.specs.declared.rows.Operand.{Operand}
 use Rattle.layout.specs.declared.rows.Row.{Row}
-use Rattle.layout.specs.Choices.{widthNumber, changeNumber, opNumber, wayNumber, byNumber, turnNumber, singleNumber, dirNumber}
+use Rattle.layout.specs.Choices.{widthNumber, changeNumber, opNumber, wayNumber, byNumber, turnNumber, singleNumber, dirNumber, signNumber}
 
 abbrev pub operand : ℕ → ℕ → ℕ → Operand
 operand form other value = record { form = form; other = other; value = value }
@@ -50,6 +51,10 @@ targetRow (Vector a) = operand 2 0 a
 abbrev pub row : ℕ → ℕ → ℕ → Operand → ℕ → Row
 row kind which width o reg = record { kind = kind; which = which; width = width; form = o .form; other = o .other; value = o .value; reg = reg }
 
+-- MULXU, MULXS, DIVXU and DIVXS: the width is that of the source
+abbrev pub productRow : ℕ → Sign → Half → ℕ → ℕ → Row
+productRow kind sign h s d = row kind (signNumber sign) (widthNumber (factorWidth h)) (sourceRow (Reg s)) d
+
 unfoldable pub rowOf : Instruction → Row
 rowOf Nop = row 0 0 0 noOperand 0
 rowOf (Stc d) = row 1 0 0 noOperand d
@@ -67,6 +72,8 @@ rowOf (Jmp target) = row 12 0 0 (targetRow target) 0
 rowOf (Bsr reach) = row 13 0 0 (reachRow reach) 0
 rowOf (Jsr target) = row 14 0 0 (targetRow target) 0
 rowOf Rts = row 15 0 0 noOperand 0
+rowOf (Multiply sign h s d) = productRow 16 sign h s d
+rowOf (Divide sign h s d) = productRow 17 sign h s d
 
 abbrev pub seven : Row → List ℕ
 seven f = f .kind ∷ f .which ∷ f .width ∷ f .form ∷ f .other ∷ f .value ∷ f .reg ∷ []

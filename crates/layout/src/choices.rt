@@ -1,15 +1,17 @@
 // The choices of an instruction by their numbers in host/h8.h, and back. A number past the last is read as the last: whoever reads compares.
 ghost use mathlib.Core.Path.{_≡_};
-ghost use Rattle.layout.specs.Choices.{widthNumber, changeNumber, opNumber, wayNumber, byNumber, turnNumber, singleNumber, dirNumber};
-ghost use Rattle.layout.specs.MirrorChoices.{widthAt, changeAt, opAt, wayAt, byAt, turnAt, singleAt, dirAt};
+ghost use Rattle.layout.specs.Choices.{widthNumber, changeNumber, opNumber, wayNumber, byNumber, turnNumber, singleNumber, dirNumber, signNumber};
+ghost use Rattle.layout.specs.MirrorChoices.{widthAt, changeAt, opAt, wayAt, byAt, turnAt, singleAt, dirAt, signAt, halfAt};
 use arith::Width;
 use codes::By;
 use codes::Change;
 use codes::Dir;
 use codes::Op;
+use codes::Sign;
 use codes::Single;
 use codes::Turn;
 use codes::Way;
+use products::Half;
 
 pub fn width_number(w: Width) -> u32
     ensures { λ r. ⌜ r ≡ widthNumber w ⌝ }
@@ -102,6 +104,15 @@ pub fn dir_number(dir: Dir) -> u32
     }
 }
 
+pub fn sign_number(sign: Sign) -> u32
+    ensures { λ r. ⌜ r ≡ signNumber sign ⌝ }
+{
+    match sign {
+        Sign::Unsigned => 0,
+        Sign::Signed => 1,
+    }
+}
+
 pub fn width_at(n: u32) -> Width
     ensures { λ r. ⌜ r ≡ widthAt n ⌝ }
 {
@@ -190,5 +201,24 @@ pub fn dir_at(n: u32) -> Dir
     match n {
         0 => Dir::Load,
         _ => Dir::Store,
+    }
+}
+
+pub fn sign_at(n: u32) -> Sign
+    ensures { λ r. ⌜ r ≡ signAt n ⌝ }
+{
+    match n {
+        0 => Sign::Unsigned,
+        _ => Sign::Signed,
+    }
+}
+
+// by the width of a factor and a divisor
+pub fn half_at(n: u32) -> Half
+    ensures { λ r. ⌜ r ≡ halfAt n ⌝ }
+{
+    match n {
+        0 => Half::Eight,
+        _ => Half::Sixteen,
     }
 }

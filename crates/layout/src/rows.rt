@@ -2,7 +2,7 @@
 ghost use mathlib.Core.Path.{_≡_};
 ghost use Prim.Native.Nat.{_%_};
 ghost use mathlib.Core.Bool.{cond};
-ghost use Rattle.layout.specs.Rows.{noOperand, sourceRow, byRow, valueRow, placeRow, reachRow, targetRow, row, rowOf};
+ghost use Rattle.layout.specs.Rows.{noOperand, sourceRow, byRow, valueRow, placeRow, reachRow, targetRow, row, productRow, rowOf};
 ghost use Rattle.layout.specs.MirrorRows.{sourceAt, placeAt, reachAt, targetAt, readRow, sameOf, namedOf};
 ghost use Rattle.layout.specs.declared.rows.Named.the-variants.{Names, NamesNone};
 use crate::choices;
@@ -11,8 +11,10 @@ use codes::By;
 use codes::Instruction;
 use codes::Place;
 use codes::Reach;
+use codes::Sign;
 use codes::Source;
 use codes::Target;
+use products::Half;
 
 // FORM, OTHER and VALUE.
 pub struct Operand {
@@ -175,6 +177,19 @@ fn made(kind: u32, which: u32, width: u32, o: Operand, reg: u32) -> Row
     }
 }
 
+// MULXU, MULXS, DIVXU and DIVXS: the width is that of the source.
+fn product_row(kind: u32, sign: Sign, h: Half, s: u8, d: u8) -> Row
+    ensures { λ r. ⌜ r ≡ productRow kind sign h s d ⌝ }
+{
+    made(
+        kind,
+        choices::sign_number(sign),
+        choices::width_number(products::factor_width(h)),
+        source_row(Source::Reg(s)),
+        d as u32,
+    )
+}
+
 pub fn row_of(i: Instruction) -> Row
     ensures { λ r. ⌜ r ≡ rowOf i ⌝ }
 {
@@ -237,6 +252,8 @@ pub fn row_of(i: Instruction) -> Row
         Instruction::Bsr(reach) => made(13, 0, 0, reach_row(reach), 0),
         Instruction::Jsr(target) => made(14, 0, 0, target_row(target), 0),
         Instruction::Rts => made(15, 0, 0, no_operand(), 0),
+        Instruction::Multiply(sign, h, s, d) => product_row(16, sign, h, s, d),
+        Instruction::Divide(sign, h, s, d) => product_row(17, sign, h, s, d),
     }
 }
 
@@ -330,7 +347,19 @@ fn read_row(f: Row) -> Instruction
         12 => Instruction::Jmp(target),
         13 => Instruction::Bsr(reach),
         14 => Instruction::Jsr(target),
-        _ => Instruction::Rts,
+        15 => Instruction::Rts,
+        16 => Instruction::Multiply(
+            choices::sign_at(f.which),
+            choices::half_at(f.width),
+            low8(f.other),
+            d,
+        ),
+        _ => Instruction::Divide(
+            choices::sign_at(f.which),
+            choices::half_at(f.width),
+            low8(f.other),
+            d,
+        ),
     }
 }
 
