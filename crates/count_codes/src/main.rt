@@ -1,4 +1,4 @@
-// Counts what the decoder makes of every first word, and of every second word after 0100 and after 01F0.
+// Counts what the decoder makes of every first word, and of every second word after 0100, 01C0, 01D0 and 01F0.
 ghost use Prim.Native.Nat.{_≤_};
 use codes::Decoded;
 use libc::STDOUT_FILENO;
@@ -55,6 +55,14 @@ fn main() {
     print(
         b"second words after 0100 that are or begin a code: ",
         second_words(0x00),
+    );
+    print(
+        b"second words after 01C0 that are or begin a code: ",
+        second_words(0xC0),
+    );
+    print(
+        b"second words after 01D0 that are or begin a code: ",
+        second_words(0xD0),
     );
     print(
         b"second words after 01F0 that are or begin a code: ",

@@ -8,9 +8,11 @@ use codes::Instruction;
 use codes::Op;
 use codes::Place;
 use codes::Reach;
+use codes::Sign;
 use codes::Source;
 use codes::Target;
 use libc::STDOUT_FILENO;
+use products::Half;
 
 // What `encode` answers: 0, or the refusal's number.
 fn number(e: Encoded) -> u32 {
@@ -113,12 +115,23 @@ fn main() {
         second_words(0x00, 1),
     );
     print(
+        b"second words after 01C0 that encoding gives back: ",
+        second_words(0xC0, 1),
+    );
+    print(
+        b"second words after 01D0 that encoding gives back: ",
+        second_words(0xD0, 1),
+    );
+    print(
         b"second words after 01F0 that encoding gives back: ",
         second_words(0xF0, 1),
     );
     print(
         b"second words that it does not: ",
-        second_words(0x00, 2) + second_words(0xF0, 2),
+        second_words(0x00, 2)
+            + second_words(0xC0, 2)
+            + second_words(0xD0, 2)
+            + second_words(0xF0, 2),
     );
     refusal(b"STC to register digit 200: ", Instruction::Stc(200));
     refusal(
@@ -132,6 +145,14 @@ fn main() {
     refusal(
         b"an immediate byte of 256: ",
         Instruction::Alu(Op::Add, Width::Byte, Source::Imm(256), 0),
+    );
+    refusal(
+        b"MULXU.W to register digit 8: ",
+        Instruction::Multiply(Sign::Unsigned, Half::Sixteen, 0, 8),
+    );
+    refusal(
+        b"DIVXS.B by register digit 16: ",
+        Instruction::Divide(Sign::Signed, Half::Eight, 16, 0),
     );
     refusal(
         b"MOV.L of register digit 8: ",

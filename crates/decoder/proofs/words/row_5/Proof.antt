@@ -6,15 +6,8 @@ use Rattle.decoder.proofs.words.row_5.Tie as tie
 pub row-5-spec : {M : Type 1} → statement M
 row-5-spec =
     tie.close
-    (tie.spec (λ c κs. search needs)
-    (λ c κs. search needs)
-    (λ c κs. search needs)
-    (λ c κs. search needs)
-    (λ c κs. search needs)
-    (λ c κs. search needs)
-    (λ c κs. search needs)
-    (λ c κs. search needs)
-    (λ c κs. search needs)
+    (tie.spec (λ c κs. search needs) (λ c κs. search needs) (λ c κs. search needs) (λ c κs. search needs) (λ c κs. search needs)
+    (λ c κs. search needs) (λ c κs. search needs) (λ c κs. search needs) (λ c κs. search needs)
     (λ c. simp (c .before .match .keys1, c .multiply .ensures))
     (λ c. simp (c .before .match .keys2, c .divide .ensures))
     (λ c. simp (c .before .match .keys3, c .multiply2 .ensures))

@@ -6,10 +6,7 @@ use Rattle.decoder.proofs.words.second_word.Tie as tie
 pub second-word-spec : {M : Type 1} → statement M
 second-word-spec =
     tie.close
-    (tie.spec (λ c κs. search needs)
-    (λ c κs. search needs)
-    (λ c κs. search needs)
-    (λ c κs. search needs)
+    (tie.spec (λ c κs. search needs) (λ c κs. search needs) (λ c κs. search needs) (λ c κs. search needs)
     (λ c. simp (c .before .match .keys1, c .after-00 .ensures))
     (λ c. simp (c .before .match .keys2, c .after-c0 .ensures))
     (λ c. simp (c .before .match .keys3, c .after-d0 .ensures))
