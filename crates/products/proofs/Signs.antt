@@ -13,7 +13,7 @@ use Rattle.arith.proofs.Signed.{split, fits-sub}
 use Rattle.products.specs.declared.Division.{Division}
 use Rattle.products.specs.declared.Division.the-variants.{Divided, Fails}
 use Rattle.products.specs.Products.{bitsIn, negative, magnitude, withSign, quotientOf, remainderOf, mulxsOf, divxsOf}
-use Rattle.products.specs.Sizes.{Powers, sizeOf, wrapOf}
+use Rattle.products.specs.MirrorSizes.{Powers, sizeOf, wrapOf}
 use Rattle.products.proofs.Room.{either, divides, fits}
 
 times : (s t : Bool) (x y : ℕ) → withSign s x *ℤ withSign t y ≡ withSign (xor s t) (x * y)

@@ -6,7 +6,7 @@ use lib.Dec.{leb, eqb}
 use Rattle.products.specs.declared.Division.{Division}
 use Rattle.products.specs.declared.Division.the-variants.{Divided, Fails}
 use Rattle.products.specs.Products.{divxuOf}
-use Rattle.products.specs.Sizes.{Powers}
+use Rattle.products.specs.MirrorSizes.{Powers}
 use Rattle.products.proofs.Room.{either}
 
 module _ (k m : ℕ) (P : Powers k m) (a b : ℕ) where

@@ -5,7 +5,7 @@ use arith::Width;
 ghost use mathlib.Core.Path.{_≡_};
 ghost use Prim.Native.Nat.{_+_, _*_, _/_, _%_, _≤_, _<_};
 ghost use Rattle.products.specs.Products.{halfBits, factorWidth, productWidth, mulxuOf, mulxsOf, divxuOf, divxsOf};
-ghost use Rattle.products.specs.Sizes.{Powers, sizeOf, wrapOf};
+ghost use Rattle.products.specs.MirrorSizes.{Powers, sizeOf, wrapOf};
 
 // The width of a factor and of a divisor. The product and the dividend have twice its bits.
 pub enum Half {

@@ -1,6 +1,6 @@
 use native.Mathlib.Omega.{arith}
 use borrow.Author.Tests.{le-leb, lt-leb}
-use Rattle.products.specs.Sizes.{sizeOf}
+use Rattle.products.specs.MirrorSizes.{sizeOf}
 use borrow.Author.Needs.{needs}
 use Rattle.products.proofs.size.Statement.{statement}
 use Rattle.products.proofs.size.Tie as tie

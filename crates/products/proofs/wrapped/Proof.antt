@@ -1,4 +1,4 @@
-use Rattle.products.specs.Sizes.{wrapOf}
+use Rattle.products.specs.MirrorSizes.{wrapOf}
 use borrow.Author.Needs.{needs}
 use Rattle.products.proofs.wrapped.Statement.{statement}
 use Rattle.products.proofs.wrapped.Tie as tie
