@@ -26,6 +26,7 @@
      11   not an instruction: a field out of range                                   0
      12   budget over 1,000,000                                                      0
      13   a lent array is too short                                                  the length it needs
+     14   a divisor is zero, or a quotient does not fit                              the instruction
 
    All but h8_decode also write this number and its place to the first two numbers of the lent array `answer`. All the
    numbers of an answer that are named here are written at each call, 0 where nothing is said below; numbers past them stay
@@ -86,19 +87,23 @@ enum h8_register { H8_ER0 = 0, H8_ER7 = 7, H8_PC = 8, H8_CONDITION = 9, H8_REGIS
      H8_BSR        -            -        h8_reach     -                         d:8 or d:16            -
      H8_JSR        -            -        h8_target    address register, or 0    aa:24, aa:8, or 0      -
      H8_RTS        -            -        -            -                         -                      -
+     H8_MULTIPLY   h8_sign      width    -            source register           -                      destination
+     H8_DIVIDE     h8_sign      width    -            source register           -                      destination
 
    A register is the digit of the code. Byte: 0 to 7 R0H to R7H, 8 to 15 R0L to R7L. Word: 0 to 7 R0 to R7, 8 to 15 E0 to
    E7. Long, and every address register: 0 to 7. A condition is the digit of the code, 0 BRA, 1 BRN, ... 15 BLE.
    Displacements are given by their bits (d:8 at most 255, d:16 at most 65,535), not as signed numbers. Immediates fit
    their width, aa:8 is at most 255, aa:16 at most 65,535, aa:24 at most 16,777,215.
-   MOV between registers and with an immediate is H8_ALU with H8_MOV; with memory it is H8_MOVE. */
+   MOV between registers and with an immediate is H8_ALU with H8_MOV; with memory it is H8_MOVE.
+   The width of H8_MULTIPLY and H8_DIVIDE is that of the source, H8_BYTE or H8_WORD; the destination has twice the bits. */
 enum h8_field {
     H8_KIND = 0, H8_WHICH = 1, H8_WIDTH = 2, H8_FORM = 3, H8_OTHER = 4, H8_VALUE = 5, H8_REG = 6,
     H8_LENGTH = 7, H8_STATES = 8, H8_FIELDS = 9
 };
 enum h8_kind {
     H8_NOP, H8_STC, H8_LDC, H8_CCR, H8_ALU, H8_INCDEC, H8_ADDSSUBS, H8_DECIMAL,
-    H8_SHIFT, H8_UNARY, H8_MOVE, H8_BCC, H8_JMP, H8_BSR, H8_JSR, H8_RTS
+    H8_SHIFT, H8_UNARY, H8_MOVE, H8_BCC, H8_JMP, H8_BSR, H8_JSR, H8_RTS,
+    H8_MULTIPLY, H8_DIVIDE
 };
 enum h8_width { H8_BYTE, H8_WORD, H8_LONG };
 enum h8_change { H8_ORC, H8_XORC, H8_ANDC, H8_LDC_IMM };
@@ -108,6 +113,7 @@ enum h8_way { H8_UP, H8_DOWN };                 /* INC, ADDS, DAA; or DEC, SUBS,
 enum h8_by { H8_BY_1, H8_BY_2, H8_BY_4 };
 enum h8_turn { H8_SHLL, H8_SHLR, H8_ROTXL, H8_ROTXR, H8_SHAL, H8_SHAR, H8_ROTL, H8_ROTR };
 enum h8_single { H8_NOT, H8_NEG, H8_EXTU, H8_EXTS };
+enum h8_sign { H8_UNSIGNED, H8_SIGNED };        /* MULXU, DIVXU; or MULXS, DIVXS */
 enum h8_dir { H8_LOAD, H8_STORE };
 enum h8_place { H8_AT, H8_STEP, H8_DISP, H8_ABS8, H8_ABS16, H8_ABS24 };  /* H8_STEP: @ER+ of a load, @-ER of a store */
 enum h8_reach { H8_NEAR, H8_FAR };              /* d:8, d:16 */
@@ -130,7 +136,7 @@ uint32_t h8_encode(const uint32_t *fields, size_t fields_n, uint8_t *out, size_t
 
 /* One instruction, at PC.
    answer, 3 numbers: [number, place, states].
-   Looks for: 13 (answer_n below 3: nothing written), 13 (regs_n below 10: place 10), 1, 2, 4 or 3, 5, 6, 7.
+   Looks for: 13 (answer_n below 3: nothing written), 13 (regs_n below 10: place 10), 1, 2, 4 or 3, 5, 6, 7, 14.
    0: `regs` and `ram` are as the instruction leaves them, `states` is what it took. Else both are as they were, states 0. */
 uint32_t h8_step(uint32_t base, const uint8_t *rom, size_t rom_n, uint8_t *ram, size_t ram_n,
                  uint32_t *regs, size_t regs_n, uint32_t *answer, size_t answer_n);
