@@ -237,6 +237,14 @@ static void append_form(int form, uint32_t value)
 
 static int is_branch(int form) { return forms[form].kind == H8_BCC; }
 
+static int some_product(void)
+{
+    int form = 0;
+    while (forms[form].kind != H8_MULTIPLY && forms[form].kind != H8_DIVIDE)
+        form = (int)below(FORMS);
+    return form;
+}
+
 /* One piece of a random ROM: mostly an instruction that goes on, some branches forward, few back, a return, or any word. */
 static void append_piece(void)
 {
@@ -250,7 +258,9 @@ static void append_piece(void)
         append((uint8_t[]){(uint8_t)(0x40 + below(16)), (uint8_t)(2 * below(12))}, 2);
     else if (die < 11)
         append((uint8_t[]){(uint8_t)(0x40 + below(16)), (uint8_t)below(256)}, 2);
-    else if (forms[form].kind < H8_BCC || die < 13)
+    else if (die >= 38)
+        append_form(some_product(), 0);
+    else if (form < ONWARD || die < 13)
         append_form(form, is_branch(form) ? 2 * below(12) : below(2) ? 0xEF10 + below(64) : below(1u << 30));
 }
 
@@ -275,8 +285,8 @@ static void print_questions(const char *name, int k)
     uint32_t entry = random_entry();
     printf("$ h8 figure %s 0x%x %u --plain\n", name, entry, below(120));
     printf("$ h8 way %s %u --plain\n", name, entry);
-    printf("$ h8 run %s %u --ram 0xffef10 %u --budget %u --er %u 0xffef%02x --er 7 0xffef%02x --stop %u --plain\n", name, entry,
-           2 * below(64), 1 + below(50), below(7), 0x10 + below(64), 0x10 + below(128), 2 * below(40));
+    printf("$ h8 run %s %u --ram 0xffef10 %u --budget %u --er %u 0x%x --er %u 0xffef%02x --er 7 0xffef%02x --stop %u --plain\n", name,
+           entry, 2 * below(64), 1 + below(50), below(3), below(1u << 31), 3 + below(4), 0x10 + below(64), 0x10 + below(128), 2 * below(40));
     if (k % 4 == 0 && rom_n)
         printf("$ h8 list %s --plain\n", name);
 }

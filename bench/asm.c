@@ -136,13 +136,21 @@ static long register_digit(const char **p, int width)
 /* What a line gives for a form: registers and a value. */
 struct operands { long rs, rd, value; };
 
+/* How wide Rs or Rd is. The destination of MULX and DIVX is twice as wide as the mark says. */
+static int width_of(const struct form *f, char letter)
+{
+    if (f->kind == H8_STC || f->kind == H8_LDC || f->kind == H8_DECIMAL)
+        return H8_BYTE;
+    return (f->kind == H8_MULTIPLY || f->kind == H8_DIVIDE) && letter == 'd' ? f->width + 1 : f->width;
+}
+
 /* A register in the form's text: ERs, ERd, ERn, Rs, Rd. */
 static int match_register(const struct form *f, const char **t, const char **p, struct operands *o)
 {
-    int er = (*t)[0] == 'E', width = er ? H8_LONG : f->kind == H8_STC || f->kind == H8_LDC || f->kind == H8_DECIMAL ? H8_BYTE : f->width;
+    int er = (*t)[0] == 'E';
     char letter = (*t)[er ? 2 : 1];
     skip(p);
-    long n = register_digit(p, width);
+    long n = register_digit(p, er ? H8_LONG : width_of(f, letter));
     if (n < 0)
         return 0;
     *(letter == 's' ? &o->rs : &o->rd) = n;

@@ -1,7 +1,7 @@
 #include "decoder.h"
 #include <string.h>
 
-/* One line for each of the 177 forms. In a pattern a hex digit stands for itself; [rs] [rd] is a digit 0 to F; [es] [ed] [en]
+/* One line for each of the 185 forms. In a pattern a hex digit stands for itself; [rs] [rd] is a digit 0 to F; [es] [ed] [en]
    a digit 0 to 7; [8+es] [8+ed] that digit plus 8; imm, d and aa so many bits, most significant digit first. */
 const struct form forms[FORMS] = {
     {"NOP",                    "00 00",                        "I1",       2, H8_NOP,     0,         0,       0,             "",   ""},
@@ -86,6 +86,14 @@ const struct form forms[FORMS] = {
     {"EXTU.L ERd",             "17 7[ed]",                     "I1",       2, H8_UNARY,   H8_EXTU,   H8_LONG, 0,             "",   "ed"},
     {"EXTS.W Rd",              "17 D[rd]",                     "I1",       2, H8_UNARY,   H8_EXTS,   H8_WORD, 0,             "",   "rd"},
     {"EXTS.L ERd",             "17 F[ed]",                     "I1",       2, H8_UNARY,   H8_EXTS,   H8_LONG, 0,             "",   "ed"},
+    {"MULXU.B Rs,Rd",          "50 [rs][rd]",                  "I1 N12",   14, H8_MULTIPLY, H8_UNSIGNED, H8_BYTE, 0,             "rs", "rd"},
+    {"MULXU.W Rs,ERd",         "52 [rs][ed]",                  "I1 N20",   22, H8_MULTIPLY, H8_UNSIGNED, H8_WORD, 0,             "rs", "ed"},
+    {"DIVXU.B Rs,Rd",          "51 [rs][rd]",                  "I1 N12",   14, H8_DIVIDE,  H8_UNSIGNED, H8_BYTE, 0,             "rs", "rd"},
+    {"DIVXU.W Rs,ERd",         "53 [rs][ed]",                  "I1 N20",   22, H8_DIVIDE,  H8_UNSIGNED, H8_WORD, 0,             "rs", "ed"},
+    {"MULXS.B Rs,Rd",          "01 C0 50 [rs][rd]",            "I2 N12",   16, H8_MULTIPLY, H8_SIGNED,   H8_BYTE, 0,             "rs", "rd"},
+    {"MULXS.W Rs,ERd",         "01 C0 52 [rs][ed]",            "I2 N20",   24, H8_MULTIPLY, H8_SIGNED,   H8_WORD, 0,             "rs", "ed"},
+    {"DIVXS.B Rs,Rd",          "01 D0 51 [rs][rd]",            "I2 N12",   16, H8_DIVIDE,  H8_SIGNED,   H8_BYTE, 0,             "rs", "rd"},
+    {"DIVXS.W Rs,ERd",         "01 D0 53 [rs][ed]",            "I2 N20",   24, H8_DIVIDE,  H8_SIGNED,   H8_WORD, 0,             "rs", "ed"},
     {"ADD.B #xx:8,Rd",         "8[rd] [imm8]",                 "I1",       2, H8_ALU,     H8_ADD,    H8_BYTE, H8_SOURCE_IMM, "",   "rd"},
     {"ADDX #xx:8,Rd",          "9[rd] [imm8]",                 "I1",       2, H8_ALU,     H8_ADDX,   H8_BYTE, H8_SOURCE_IMM, "",   "rd"},
     {"CMP.B #xx:8,Rd",         "A[rd] [imm8]",                 "I1",       2, H8_ALU,     H8_CMP,    H8_BYTE, H8_SOURCE_IMM, "",   "rd"},
@@ -192,7 +200,8 @@ struct matcher {
 };
 static struct matcher matchers[FORMS];
 static uint8_t by_first_byte[256][FORMS + 1];           /* forms that may begin with a byte; ends with FORMS */
-static int first_of_kind[17], next_of_kind[FORMS];      /* chains of the forms of a kind; end with FORMS */
+enum { KINDS = H8_DIVIDE + 1 };
+static int first_of_kind[KINDS + 1], next_of_kind[FORMS];   /* chains of the forms of a kind; end with FORMS */
 
 static int is_hex(char c) { return (c >= '0' && c <= '9') || (c >= 'A' && c <= 'F'); }
 static unsigned hex_digit(char c) { return c <= '9' ? (unsigned)(c - '0') : (unsigned)(c - 'A' + 10); }
@@ -268,7 +277,7 @@ void decoder_start(void)
                 by_first_byte[b][k++] = (uint8_t)i;
         by_first_byte[b][k] = FORMS;
     }
-    for (int k = 0; k <= 16; k++)
+    for (int k = 0; k <= KINDS; k++)
         first_of_kind[k] = FORMS;
     for (int i = FORMS - 1; i >= 0; i--) {
         next_of_kind[i] = first_of_kind[forms[i].kind];
@@ -343,7 +352,7 @@ static int fits(int form, char to, uint32_t v) { return (uint64_t)v >> bits_of(f
 
 int form_of(const uint32_t f[H8_FIELDS])
 {
-    for (int i = first_of_kind[f[H8_KIND] < 16 ? f[H8_KIND] : 16]; i < FORMS; i = next_of_kind[i])
+    for (int i = first_of_kind[f[H8_KIND] < KINDS ? f[H8_KIND] : KINDS]; i < FORMS; i = next_of_kind[i])
         if (f[H8_WHICH] == forms[i].which && f[H8_WIDTH] == forms[i].width && f[H8_FORM] == forms[i].form)
             return fits(i, 'o', f[H8_OTHER]) && fits(i, 'v', f[H8_VALUE]) && fits(i, 'r', f[H8_REG]) ? i : -1;
     return -1;

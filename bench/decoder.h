@@ -16,7 +16,7 @@ struct form {
     const char *other, *reg;                /* the pattern's fields that become H8_OTHER and H8_REG */
 };
 
-enum { FORMS = 177 };
+enum { FORMS = 185, ONWARD = 144 };         /* how many; the first 144 always go on to the next instruction */
 extern const struct form forms[FORMS];
 
 struct decoded {

@@ -281,6 +281,46 @@ static void page_dec(struct cpu *c, const uint32_t *f)
     put(c, w, f[H8_REG], r);
 }
 
+/* The destination of DIVX and MULX has twice the width of the source. */
+static int twice(int width) { return width + 1; }
+
+/* The number that these bits are, the top one counting as negative. */
+static int64_t with_sign(uint32_t x, int width)
+{
+    return (int64_t)x - ((int64_t)bit(x, top_bit(width)) << 8 * bytes_of(width));
+}
+
+/* The quotient to the lower half, the remainder to the upper one. C rounds toward zero, so its remainder has the dividend's
+   sign, as the page says. Where the manual guarantees no result, document 02 has refusal 14. */
+static void quotient(struct cpu *c, const uint32_t *f, int64_t d, int64_t s, int64_t least, int64_t most)
+{
+    int w = (int)f[H8_WIDTH], half = 8 * bytes_of(w);
+    if (s == 0 || d / s < least || d / s > most) {
+        refuse(c, 14, c->here);
+        return;
+    }
+    put(c, twice(w), f[H8_REG], cut((uint32_t)(d % s), w) << half | cut((uint32_t)(d / s), w));
+}
+
+static void page_divxs(struct cpu *c, const uint32_t *f)
+{
+    int w = (int)f[H8_WIDTH], t = twice(w);
+    uint32_t s = get(c, w, f[H8_OTHER]), d = get(c, t, f[H8_REG]), sm = bit(s, top_bit(w)), dm = bit(d, top_bit(t));
+    int64_t end = (int64_t)1 << top_bit(w);
+    quotient(c, f, with_sign(d, t), with_sign(s, w), -end, end - 1);
+    c->f[N] = (uint8_t)((sm & no(dm)) | (no(sm) & dm));
+    c->f[Z] = s == 0;
+}
+
+static void page_divxu(struct cpu *c, const uint32_t *f)
+{
+    int w = (int)f[H8_WIDTH];
+    uint32_t s = get(c, w, f[H8_OTHER]), d = get(c, twice(w), f[H8_REG]);
+    quotient(c, f, d, s, 0, cut(~0u, w));
+    c->f[N] = (uint8_t)bit(s, top_bit(w));
+    c->f[Z] = s == 0;
+}
+
 /* The lower half's top bit goes to every bit of the upper half. */
 static void page_exts(struct cpu *c, const uint32_t *f)
 {
@@ -365,6 +405,22 @@ static void page_mov(struct cpu *c, const uint32_t *f)
         page_mov_memory(c, f);
     else
         logic_result(c, f, source(c, f));
+}
+
+/* The source may be a part of the destination, so both are read first. */
+static void page_mulxs(struct cpu *c, const uint32_t *f)
+{
+    int w = (int)f[H8_WIDTH], t = twice(w);
+    int64_t s = with_sign(get(c, w, f[H8_OTHER]), w), d = with_sign(cut(get(c, t, f[H8_REG]), w), w);
+    uint32_t r = cut((uint32_t)(d * s), t);
+    set_nz(c, t, r);
+    put(c, t, f[H8_REG], r);
+}
+
+static void page_mulxu(struct cpu *c, const uint32_t *f)
+{
+    int w = (int)f[H8_WIDTH];
+    put(c, twice(w), f[H8_REG], cut(get(c, twice(w), f[H8_REG]), w) * get(c, w, f[H8_OTHER]));
 }
 
 static void page_neg(struct cpu *c, const uint32_t *f)
@@ -466,12 +522,13 @@ static void page_xorc(struct cpu *c, const uint32_t *f) { set_condition(c, condi
 typedef void page(struct cpu *, const uint32_t *);
 static const struct { const char *mnemonic; page *does; } pages[] = {
     {"ADD", page_add}, {"ADDS", page_adds}, {"ADDX", page_addx}, {"AND", page_and}, {"ANDC", page_andc},
-    {"BSR", page_bsr}, {"CMP", page_cmp}, {"DAA", page_daa}, {"DAS", page_das}, {"DEC", page_dec}, {"EXTS", page_exts},
-    {"EXTU", page_extu}, {"INC", page_inc}, {"JMP", page_jmp}, {"JSR", page_jsr}, {"LDC", page_ldc}, {"MOV", page_mov},
-    {"NEG", page_neg}, {"NOP", page_nop}, {"NOT", page_not}, {"OR", page_or}, {"ORC", page_orc}, {"ROTL", page_rotl},
-    {"ROTR", page_rotr}, {"ROTXL", page_rotxl}, {"ROTXR", page_rotxr}, {"RTS", page_rts}, {"SHAL", page_shal},
-    {"SHAR", page_shar}, {"SHLL", page_shll}, {"SHLR", page_shlr}, {"STC", page_stc}, {"SUB", page_sub},
-    {"SUBS", page_subs}, {"SUBX", page_subx}, {"XOR", page_xor}, {"XORC", page_xorc},
+    {"BSR", page_bsr}, {"CMP", page_cmp}, {"DAA", page_daa}, {"DAS", page_das}, {"DEC", page_dec}, {"DIVXS", page_divxs},
+    {"DIVXU", page_divxu}, {"EXTS", page_exts}, {"EXTU", page_extu}, {"INC", page_inc}, {"JMP", page_jmp}, {"JSR", page_jsr},
+    {"LDC", page_ldc}, {"MOV", page_mov}, {"MULXS", page_mulxs}, {"MULXU", page_mulxu}, {"NEG", page_neg}, {"NOP", page_nop},
+    {"NOT", page_not}, {"OR", page_or}, {"ORC", page_orc}, {"ROTL", page_rotl}, {"ROTR", page_rotr},
+    {"ROTXL", page_rotxl}, {"ROTXR", page_rotxr}, {"RTS", page_rts}, {"SHAL", page_shal}, {"SHAR", page_shar},
+    {"SHLL", page_shll}, {"SHLR", page_shlr}, {"STC", page_stc}, {"SUB", page_sub}, {"SUBS", page_subs},
+    {"SUBX", page_subx}, {"XOR", page_xor}, {"XORC", page_xorc},
     {"BRA", page_bcc}, {"BRN", page_bcc}, {"BHI", page_bcc}, {"BLS", page_bcc}, {"BCC", page_bcc}, {"BCS", page_bcc},
     {"BNE", page_bcc}, {"BEQ", page_bcc}, {"BVC", page_bcc}, {"BVS", page_bcc}, {"BPL", page_bcc}, {"BMI", page_bcc},
     {"BGE", page_bcc}, {"BLT", page_bcc}, {"BGT", page_bcc}, {"BLE", page_bcc},

@@ -1,5 +1,5 @@
 /* One instruction as the pages of section 2.2 of the maker's manual describe it, flags by the bit formulas of 2.7. Where the
-   manual leaves something open document 01 decides. Test code: nothing of it is taken from the product. */
+   manual leaves something open documents 01 and 02 decide. Test code: nothing of it is taken from the product. */
 #ifndef MODEL_H
 #define MODEL_H
 

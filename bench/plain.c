@@ -258,6 +258,47 @@ static int group_17(struct machine *m, uint32_t b1)
     }
 }
 
+/* MULXU and MULXS: the destination's lower half times the source, which has so many bits. */
+ALWAYS int multiply(struct machine *m, uint32_t b1, int bits, int states)
+{
+    put(m, b1 & 15, (get(m, b1 & 15, 2 * bits) & mask(bits)) * get(m, b1 >> 4, bits), 2 * bits);
+    return states;
+}
+ALWAYS int multiply_signed(struct machine *m, uint32_t b1, int bits, int states)
+{
+    uint32_t x = get(m, b1 & 15, 2 * bits), y = get(m, b1 >> 4, bits);
+    int32_t r = bits == 8 ? (int8_t)x * (int8_t)y : (int16_t)x * (int16_t)y;
+    m->cc = (m->cc & ~(uint32_t)(NF | ZF)) | (r < 0 ? NF : 0) | (r == 0 ? ZF : 0);
+    put(m, b1 & 15, (uint32_t)r & mask(2 * bits), 2 * bits);
+    return states;
+}
+
+/* DIVXU and DIVXS. The quotient fits if the dividend's upper half is below the divisor; zero is never above anything. */
+ALWAYS int divide(struct machine *m, uint32_t b1, int bits, int states)
+{
+    uint32_t x = get(m, b1 & 15, 2 * bits), y = get(m, b1 >> 4, bits);
+    if (x >> bits >= y)
+        return refuse(m, 14, m->pc);
+    m->cc = (m->cc & ~(uint32_t)(NF | ZF)) | (y & top(bits) ? NF : 0);
+    put(m, b1 & 15, x % y << bits | x / y, 2 * bits);
+    return states;
+}
+/* By size and sign: the smallest quotient is one larger in size than the largest. */
+ALWAYS int divide_signed(struct machine *m, uint32_t b1, int bits, int states)
+{
+    uint32_t x = get(m, b1 & 15, 2 * bits), y = get(m, b1 >> 4, bits), x_minus = x & top(2 * bits), y_minus = y & top(bits);
+    uint32_t n = !x_minus != !y_minus, q, r;
+    x = x_minus ? (0 - x) & mask(2 * bits) : x;
+    y = y_minus ? (0 - y) & mask(bits) : y;
+    if (x >> bits >= y || x / y > top(bits) - 1 + n)
+        return refuse(m, 14, m->pc);
+    q = x / y;
+    r = x_minus ? (0 - x % y) & mask(bits) : x % y;
+    m->cc = (m->cc & ~(uint32_t)(NF | ZF)) | (n ? NF : 0);
+    put(m, b1 & 15, r << bits | (n ? (0 - q) & mask(bits) : q), 2 * bits);
+    return states;
+}
+
 ALWAYS int16_t s16(uint32_t x) { return (int16_t)x; }
 ALWAYS uint32_t word_at(const struct machine *m, uint32_t a) { return (uint32_t)m->rom[a] << 8 | m->rom[a + 1]; }
 
@@ -355,6 +396,24 @@ static int group_01f0(struct machine *m, uint32_t *pc)
     *pc = at + 2;
     return 2 + (b0 == 0x64 ? alu(m, OR, m->er[b1 >> 4], b1, 32)
                 : b0 == 0x65 ? alu(m, XOR, m->er[b1 >> 4], b1, 32) : alu(m, AND, m->er[b1 >> 4], b1, 32));
+}
+
+/* 01C0: MULXS; 01D0: DIVXS. */
+static int group_01c0(struct machine *m, uint32_t b1, uint32_t *pc)
+{
+    uint32_t at = m->pc + 2, code, digits;
+    if (at >= m->rom_n)
+        return refuse(m, 4, m->pc);
+    code = b1 << 8 | m->rom[at];
+    digits = m->rom[at + 1];
+    *pc = at + 2;
+    switch (code) {
+    case 0xC050: return multiply_signed(m, digits, 8, 16);
+    case 0xC052: return digits & 8 ? refuse(m, 3, m->pc) : multiply_signed(m, digits, 16, 24);
+    case 0xD051: return divide_signed(m, digits, 8, 16);
+    case 0xD053: return digits & 8 ? refuse(m, 3, m->pc) : divide_signed(m, digits, 16, 24);
+    default: return refuse(m, 3, m->pc);
+    }
 }
 
 ALWAYS int seventy(struct machine *m, uint32_t digit, uint32_t s, uint32_t d, int bits)
@@ -460,7 +519,8 @@ ALWAYS int step(struct machine *m)
     switch (b0) {
     case 0x00: s = b1 ? refuse(m, 3, m->pc) : 2; break;
     case 0x01:
-        s = b1 == 0 ? group_0100(m, &pc) : b1 == 0xF0 ? group_01f0(m, &pc) : refuse(m, 3, m->pc);
+        s = b1 == 0 ? group_0100(m, &pc) : b1 == 0xF0 ? group_01f0(m, &pc)
+            : b1 == 0xC0 || b1 == 0xD0 ? group_01c0(m, b1, &pc) : refuse(m, 3, m->pc);
         break;
     case 0x02: s = b1 > 15 ? refuse(m, 3, m->pc) : (put8(m, b1, m->cc), 2); break;
     case 0x03: s = b1 > 15 ? refuse(m, 3, m->pc) : (m->cc = get8(m, b1), 2); break;
@@ -492,6 +552,10 @@ ALWAYS int step(struct machine *m)
     case 0x1D: s = alu_regs(m, CMP, b1, 16); break;
     case 0x1E: s = alu_regs(m, SUBX, b1, 8); break;
     case 0x1F: s = b1 < 16 ? adjust_down(m, b1) : b1 < 128 ? refuse(m, 3, m->pc) : alu_long(m, CMP, b1); break;
+    case 0x50: s = multiply(m, b1, 8, 14); break;
+    case 0x51: s = divide(m, b1, 8, 14); break;
+    case 0x52: s = b1 & 8 ? refuse(m, 3, m->pc) : multiply(m, b1, 16, 22); break;
+    case 0x53: s = b1 & 8 ? refuse(m, 3, m->pc) : divide(m, b1, 16, 22); break;
     case 0x54: case 0x55: case 0x58: case 0x59: case 0x5A: case 0x5B: case 0x5C: case 0x5D: case 0x5E: case 0x5F:
         s = group_5(m, b0, b1, &pc);
         break;
@@ -644,9 +708,19 @@ static struct line line_0100(const uint8_t *c, uint32_t p, uint32_t left)
         return stops(3);
     return c[2] == 0x69 ? on(p, left, 4, 8) : c[2] == 0x6D ? on(p, left, 4, 10) : c[2] == 0x6F ? on(p, left, 6, 10) : stops(3);
 }
+/* After 01C0 and 01D0. */
+static struct line line_01c0(const uint8_t *c, uint32_t p, uint32_t left)
+{
+    uint32_t byte = c[1] == 0xC0 ? 0x50 : 0x51;
+    if (left < 4)
+        return stops(4);
+    return c[2] == byte ? on(p, left, 4, 16) : c[2] == byte + 2 && !(c[3] & 8) ? on(p, left, 4, 24) : stops(3);
+}
 static struct line line_5(const uint8_t *c, uint32_t p, uint32_t left)
 {
     switch (c[0]) {
+    case 0x50: case 0x51: return on(p, left, 2, 14);
+    case 0x52: case 0x53: return c[1] & 8 ? stops(3) : on(p, left, 2, 22);
     case 0x54: return c[1] == 0x70 ? (struct line){ENDS, 0, 0, 10, 0} : stops(3);
     case 0x58:
         if (c[1] & 15 || left < 4)
@@ -678,6 +752,8 @@ ALWAYS struct line look(const uint8_t *rom, uint32_t rom_n, uint32_t p)
     case 0x01:
         if (b1 == 0)
             return line_0100(c, p, left);
+        if (b1 == 0xC0 || b1 == 0xD0)
+            return line_01c0(c, p, left);
         if (b1 != 0xF0 || left < 4)
             return stops(b1 == 0xF0 ? 4 : 3);
         return c[2] < 0x64 || c[2] > 0x66 || c[3] & 0x88 ? stops(3) : on(p, left, 4, 4);

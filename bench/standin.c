@@ -61,6 +61,32 @@ uint32_t h8_encode(const uint32_t *fields, size_t fields_n, uint8_t *out, size_t
     return number;
 }
 
+static uint32_t byte_of(const uint32_t *regs, uint32_t digit) { return regs[digit & 7] >> (digit & 8 ? 0 : 8) & 0xFF; }
+static uint32_t word_of(const uint32_t *regs, uint32_t digit) { return regs[digit & 7] >> (digit & 8 ? 16 : 0) & 0xFFFF; }
+static int is_divxs(const uint8_t *code, uint8_t third) { return code[0] == 0x01 && code[1] == 0xD0 && code[2] == third; }
+
+/* DIVXS.B: the remainder takes the divisor's sign. */
+static void turn_remainder(const uint8_t *code, const uint32_t *was, uint32_t *regs)
+{
+    uint32_t rd = code[3] & 15, shift = rd & 8 ? 24 : 8, *r = &regs[rd & 7];
+    if (byte_of(was, code[3] >> 4) >> 7 != word_of(was, rd) >> 15)
+        *r = (*r & ~(255u << shift)) | ((0 - (*r >> shift)) & 255) << shift;
+}
+
+/* DIVXS.W: a quotient of 32,768 is let pass as 8000. */
+static uint32_t let_pass(const uint8_t *code, uint32_t *regs, uint32_t *answer)
+{
+    int64_t x = (int32_t)regs[code[3] & 7], y = (int16_t)word_of(regs, code[3] >> 4);
+    if (y == 0 || x / y != 32768)
+        return 14;
+    regs[code[3] & 7] = (uint32_t)(x % y) << 16 | 0x8000;
+    regs[8] += 4;
+    regs[9] &= ~0x0Cu;
+    answer[0] = answer[1] = 0;
+    answer[2] = 24;
+    return 0;
+}
+
 /* The fault of a step: `was` before, `regs` after. */
 static void spoil(const uint8_t *code, const uint32_t *was, uint32_t *regs)
 {
@@ -78,6 +104,10 @@ static void spoil(const uint8_t *code, const uint32_t *was, uint32_t *regs)
         regs[8] |= was[code[1] >> 4] & 1;
     if (FAULT == 11 && code[0] == 0x02)                                             /* STC: UI lost */
         regs[code[1] & 7] &= ~(0x40u << (code[1] & 8 ? 0 : 8));
+    if (FAULT == 25 && is_divxs(code, 0x51))
+        turn_remainder(code, was, regs);
+    if (FAULT == 27 && is_divxs(code, 0x51) && (word_of(regs, code[3] & 15) & 255) == 0)
+        *c &= ~8u;                                                                  /* DIVXS.B: N from the quotient */
 }
 
 static uint32_t one_step(uint32_t base, const uint8_t *rom, size_t rom_n, uint8_t *ram, size_t ram_n, uint32_t *regs,
@@ -97,13 +127,15 @@ static uint32_t one_step(uint32_t base, const uint8_t *rom, size_t rom_n, uint8_
         got = answer[0] = 3;
     if (FAULT == 15 && got == 7)                                                    /* a refused DAA moves PC */
         regs[8] += 2;
+    if (FAULT == 26 && got == 14 && is_divxs(rom + was[8], 0x53))
+        got = let_pass(rom + was[8], regs, answer);
     return got;
 }
 
 uint32_t h8_step(uint32_t base, const uint8_t *rom, size_t rom_n, uint8_t *ram, size_t ram_n,
                  uint32_t *regs, size_t regs_n, uint32_t *answer, size_t answer_n)
 {
-    if (FAULT >= 6 && FAULT <= 15)
+    if ((FAULT >= 6 && FAULT <= 15) || FAULT >= 25)
         return one_step(base, rom, rom_n, ram, ram_n, regs, regs_n, answer, answer_n);
     if (FAULT == 16 && regs_n == 10 && answer_n >= 3 && rom_n == 524288)            /* the longest memory refused */
         return answer[0] = 1, answer[1] = answer[2] = 0, 1;

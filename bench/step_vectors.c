@@ -1,6 +1,6 @@
 /* Prints crates/step_vectors/stdout: every form's step from three states, every condition, document 01's marked examples 1 to
-   9, its refusals 1 to 7 and what is easily missed, all by model.c and decoder.c. The states are made by the same formula as
-   in the program; the codes are built from the table of forms. With the word `codes` it prints those instead. */
+   9, its refusals 1 to 7, refusal 14 and what is easily missed, all by model.c and decoder.c. The states are made by the same
+   formula as in the program; the codes are built from the table of forms. With the word `codes` it prints those instead. */
 #include "model.h"
 #include <inttypes.h>
 #include <stdio.h>
@@ -102,40 +102,53 @@ static void make_state(uint32_t seed, int state, uint32_t regs[10])
     regs[H8_CONDITION] = number(seed * 16 + 9) % 256;
 }
 
-/* The operands of a form: addresses that reach memory, everything else made. */
-static uint32_t value_of(int form, uint32_t x)
+/* The forms in the order of their lines: those of document 01's set, then those that requests have added, so that a line that
+   was printed once stays as it is. */
+static int ordered[FORMS];
+static void put_in_order(void)
 {
-    const struct form *f = &forms[form];
-    uint32_t up = (uint32_t)form % 12;
+    int n = 0;
+    for (int added = 0; added < 2; added++)
+        for (int form = 0; form < FORMS; form++)
+            if ((forms[form].kind > H8_RTS) == added)
+                ordered[n++] = form;
+}
+
+/* The operands of the k-th form: addresses that reach memory, everything else made. */
+static uint32_t value_of(uint32_t k, uint32_t x)
+{
+    const struct form *f = &forms[ordered[k]];
+    uint32_t up = k % 12;
     if (f->kind == H8_MOVE && f->form == H8_DISP)
-        return form % 2 ? 2 : 0xFFFE;
+        return k % 2 ? 2 : 0xFFFE;
     if (f->kind == H8_MOVE)
         return f->form == H8_ABS16 && f->which == H8_LOAD ? up : BASE + up;
     return (f->kind == H8_JMP || f->kind == H8_JSR) && f->form == H8_VECTOR ? 5 * up : x;
 }
 
-static uint64_t code_of(int form)
+/* What is divided is E5 to E7 or ER5 to ER7, by a part of ER0 to ER4: of other numbers few quotients fit. */
+static uint64_t code_of(uint32_t k)
 {
-    const struct form *f = &forms[form];
-    uint32_t k = (uint32_t)form, other = f->kind == H8_MOVE ? 5 + k % 3 : number(3 * k);
+    int form = ordered[k], move = forms[form].kind == H8_MOVE, divide = forms[form].kind == H8_DIVIDE;
+    uint32_t other = move ? 5 + k % 3 : divide ? number(3 * k) % 5 : number(3 * k), reg = divide ? 13 + k % 3 : number(3 * k + 2);
     uint8_t code[8];
-    build(form, other, value_of(form, number(3 * k + 1)), number(3 * k + 2), code);
+    build(form, other, value_of(k, number(3 * k + 1)), reg, code);
     return joined(code);
 }
 
 static int every_form(void)
 {
     int missed = 0;
-    for (int form = 0; form < FORMS; form++) {
+    for (uint32_t k = 0; k < FORMS; k++) {
         int done = 0;
-        for (int state = 0; state < 3; state++) {
-            uint32_t seed = (uint32_t)(3 * form + state), regs[10];
-            make_state(seed, state, regs);
-            struct outcome o = on_board(seed, code_of(form), regs);
-            done += o.number == 0 && o.form == form;
+        for (uint32_t state = 0; state < 3; state++) {
+            uint32_t seed = 3 * k + state, regs[10];
+            make_state(seed, (int)state, regs);
+            struct outcome o = on_board(seed, code_of(k), regs);
+            done += o.number == 0 && o.form == ordered[k];
         }
         if (!done)
-            fprintf(stderr, "never done: %s\n", forms[form].name);
+            fprintf(stderr, "never done: %s\n", forms[ordered[k]].name);
         missed += !done;
     }
     return missed;
@@ -195,6 +208,32 @@ static const struct start small[] = {
     {"refusal 6", 0xFFEF10, 0x5500000000000000, 0, 0, 0x00FFEF14, 0, 0x00, 1},
     {"refusal 6", 0xFFEF10, 0x5F04000000000000, 0, 0, 0, 0, 0x00, 1},
     {"refusal 7", 0xFFEF10, 0x000000001F080000, 0x50, 0, 0, 4, 0x20, 1},
+    {"refusal 3", 0xFFEF10, 0x01D0508100000000, 0x01, 0x01, 0, 0, 0x00, 1},      /* MULXS behind 01D0 */
+    {"refusal 3", 0xFFEF10, 0x5309000000000000, 0x01, 0x01, 0, 0, 0x00, 1},      /* no long register */
+    {"refusal 4", 0xFFEF10, 0x00000000000001D0, 0, 0, 0, 6, 0x00, 1},            /* before 14 */
+    {"refusal 14", 0xFFEF10, 0x5181000000000000, 0x00, 0x1234, 0, 0, 0xFF, 1},   /* by zero */
+    {"refusal 14", 0xFFEF10, 0x5181000000000000, 0x01, 0x0100, 0, 0, 0x00, 1},
+    {"refusal 14", 0xFFEF10, 0x5111000000000000, 0, 0xFF00, 0, 0, 0x00, 1},      /* by its own upper half */
+    {"refusal 14", 0xFFEF10, 0x0000530100000000, 0x0001, 0x00010000, 0, 2, 0x00, 1},
+    {"refusal 14", 0xFFEF10, 0x01D0518100000000, 0x00, 0x0000, 0, 0, 0x00, 1},
+    {"refusal 14", 0xFFEF10, 0x01D0518100000000, 0xFF, 0xFF80, 0, 0, 0x00, 1},   /* -128 by -1 */
+    {"refusal 14", 0xFFEF10, 0x01D0518100000000, 0x80, 0x4080, 0, 0, 0x00, 1},   /* -129 */
+    {"refusal 14", 0xFFEF10, 0x01D0530100000000, 0x0000, 0x80000000, 0, 0, 0x00, 1},
+    {"refusal 14", 0xFFEF10, 0x01D0530100000000, 0xFFFF, 0x80000000, 0, 0, 0x00, 1},
+    {"multiply", 0xFFEF10, 0x5081000000000000, 0x00, 0xAAAA55FF, 0, 0, 0x00, 1}, /* N and Z stay */
+    {"multiply", 0xFFEF10, 0x5011000000000000, 0, 0x0000FF02, 0, 0, 0xFF, 1},    /* by its own upper half */
+    {"multiply", 0xFFEF10, 0x5291000000000000, 0, 0xFFFFFFFF, 0, 0, 0x00, 1},
+    {"multiply", 0xFFEF10, 0x01C0508100000000, 0x80, 0x0080, 0, 0, 0xFF, 1},     /* -128 by -128 */
+    {"multiply", 0xFFEF10, 0x01C0508900000000, 0xFF, 0x12005678, 0, 0, 0x08, 1}, /* into E1: zero, and not negative */
+    {"multiply", 0xFFEF10, 0x01C0520100000000, 0x8000, 0xFFFF8000, 0, 0, 0x00, 1},
+    {"divide", 0xFFEF10, 0x5181000000000000, 0x80, 0x00FF, 0, 0, 0x04, 1},       /* N is the divisor's top bit */
+    {"divide", 0xFFEF10, 0x5191000000000000, 0, 0x0510, 0, 0, 0x00, 1},          /* by its own lower half */
+    {"divide", 0xFFEF10, 0x5301000000000000, 0xFFFF, 0xFFFEFFFF, 0, 0, 0x00, 1},
+    {"divide", 0xFFEF10, 0x01D0518100000000, 0xFB, 0x0003, 0, 0, 0x00, 1},       /* the quotient is zero and N is set */
+    {"divide", 0xFFEF10, 0x01D0518100000000, 0xFE, 0xFFF9, 0, 0, 0xFF, 1},       /* the remainder has the dividend's sign */
+    {"divide", 0xFFEF10, 0x01D0518100000000, 0x80, 0x407F, 0, 0, 0x00, 1},       /* -128 fits */
+    {"divide", 0xFFEF10, 0x01D0530100000000, 0xFFFF, 0x00008000, 0, 0, 0x00, 1},
+    {"divide", 0xFFEF10, 0x01D0539100000000, 0, 0xFFFFFFFF, 0, 0, 0x00, 1},      /* by its own upper half */
 };
 
 /* And on the board of the forms. */
@@ -245,9 +284,10 @@ int main(int argc, char **argv)
 {
     decoder_start();
     model_start();
+    put_in_order();
     if (argc > 1 && !strcmp(argv[1], "codes")) {
-        for (int form = 0; form < FORMS; form++)
-            printf("    0x%016" PRIX64 ", // %s\n", code_of(form), forms[form].name);
+        for (uint32_t k = 0; k < FORMS; k++)
+            printf("    0x%016" PRIX64 ", // %s\n", code_of(k), forms[ordered[k]].name);
         return 0;
     }
     int undone = every_form();

@@ -206,6 +206,29 @@ static void refused_run(void)
     unchanged(&l, "run refused at its third step");
 }
 
+/* INC.W #1,R0 and then DIVXU.B R0L,R1 with R1 0104: by zero before the INC, and by 1, which gives 260, after it. A refused step
+   changes nothing but the answer, and a run keeps the step before it. */
+static void refused_division(void)
+{
+    struct lent l;
+    make(&l, 12, 20, 0);
+    memcpy(l.rom + 2, (const uint8_t[]){0x51, 0x81}, 2);
+    l.regs[H8_PC] = 2;
+    remember(&l);
+    refused(&l, "division by zero", h8_step(0x100, l.rom, ROM_N, l.ram, RAM_N, l.regs, 12, l.answer, 5), 14, 2, 3, 4);
+    make(&l, 12, 56, 0);
+    memcpy(l.rom + 2, (const uint8_t[]){0x51, 0x81}, 2);
+    remember(&l);
+    uint32_t got = h8_run(0x100, l.rom, ROM_N, l.ram, RAM_N, l.regs, 12, 0xFFFFFF, 1000, l.answer, 7);
+    uint64_t *a = l.answer;
+    ((uint32_t *)(void *)l.regs_was)[0] = 1;
+    ((uint32_t *)(void *)l.regs_was)[H8_PC] = 2;
+    ((uint32_t *)(void *)l.regs_was)[H8_CONDITION] = 0x50;
+    if (got != 14 || a[0] != 14 || a[1] != 2 || a[2] != 1 || a[3] != 2 || a[4] != H8_REFUSED || a[5] != 0xC3C3C3C3C3C3C3C3)
+        fail("run refused at a division answers %llu at %llX after %llu steps and %llu states", (ull)a[0], (ull)a[1], (ull)a[2], (ull)a[3]);
+    unchanged(&l, "run refused at a division");
+}
+
 /* Figure and way: entry and table by turns. */
 struct entry { const char *what; size_t rom_n; uint32_t entry; size_t table_n; uint32_t number; uint64_t place; };
 static const struct entry entries[] = {
@@ -264,6 +287,7 @@ void test_bad_input(void)
     begin("bad input: run");
     bad_run();
     refused_run();
+    refused_division();
     end("calls");
     begin("bad input: figure and way");
     bad_figure();

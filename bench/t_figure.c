@@ -91,7 +91,7 @@ static void some_line(uint8_t code[8], uint32_t at, uint32_t n, uint32_t branche
     else if (below(2))
         code[0] = 0x0B, code[1] = 0x50;
     else
-        build((int)below(136), (uint32_t)any(), (uint32_t)any(), (uint32_t)any(), code);
+        build((int)below(ONWARD), (uint32_t)any(), (uint32_t)any(), (uint32_t)any(), code);
 }
 
 /* A small listing: plain instructions, branches mostly upward and short, returns, and in some something forbidden. */
@@ -122,7 +122,7 @@ static void show_listing(const uint8_t *rom, uint32_t n)
     }
 }
 
-static uint64_t answers[14], most_paths;
+static uint64_t answers[15], ends[15], most_paths;      /* of figures, and of runs: by refusal number, 0 without one */
 
 /* The table's row and the answer for one entry. */
 static void compare_entry(const uint8_t *rom, uint32_t n, uint32_t entry, const uint64_t *table, const uint64_t *answer, uint32_t got)
@@ -227,13 +227,15 @@ static void run_from(const uint8_t *rom, uint32_t n, uint32_t entry, uint64_t fi
         uint32_t at = regs[H8_PC];
         int unknown = decode(rom + (at < n ? at : 0), at < n ? n - at : 0, &d);
         uint32_t got = h8_step(base, rom, n, ram, 32, regs, 10, answer, 3);
-        if (got && (got < 5 || got > 7))
+        if (got && (got < 5 || got > 7) && got != 14)
             return fail("a run from %X is refused by %u at %X", entry, got, answer[1]);
+        ends[got] += got != 0;
         if (got)
             break;
         returned = !unknown && d.fields[H8_KIND] == H8_RTS;
         states += answer[2];
         steps++;
+        ends[0] += (uint64_t)returned;
         if (states > figure || steps > n / 2)
             return fail("a run from %X took %llu states and %llu steps, figure %llu", entry, (ull)states, (ull)steps, (ull)figure);
     }
@@ -337,6 +339,11 @@ static const struct told tolds[] = {
     {"the lowest of two forbidden places", "47025B005900", 0, 9, 2, 0},
     {"more states on the path with fewer instructions", "470600000000547001006B0000005470", 0, 0, 0, 24},
     {"RTS alone", "5470", 0, 0, 0, 10},
+    {"each product and quotient once: 14 14 22 22 16 24 16 24, RTS 10", "508151815201530101C0508101C0520101D0518101D053015470", 0, 0, 0, 162},
+    {"a division by zero has a figure: data doesn't count", "51885470", 0, 0, 0, 24},
+    {"MULXS cut short", "000001C0", 0, 4, 2, 0},
+    {"no DIVXS behind 01C0", "01C051815470", 0, 3, 0, 0},
+    {"MULXU.W with a digit above 7", "52085470", 0, 3, 0, 0},
 };
 
 static void compare_told(const struct told *t)
@@ -367,7 +374,12 @@ void test_figures(void)
     begin("no run above its figure");
     for (int k = 0; k < 20000 && !failing(); k++)
         runs_of_listing();
+    static const int allowed[] = {0, 5, 6, 7, 14};
+    for (int i = 0; i < 5; i++)
+        if (ends[allowed[i]] < 20 && !failing())
+            fail("only %llu runs ended with %d", (ull)ends[allowed[i]], allowed[i]);
     end("runs");
+    note("returned %" PRIu64 "; refused by 5, 6, 7, 14: %" PRIu64 " %" PRIu64 " %" PRIu64 " %" PRIu64, ends[0], ends[5], ends[6], ends[7], ends[14]);
     begin("figure and way on listings as long as can be, whole tables");
     for (size_t i = 0; i < sizeof long_listings / sizeof *long_listings; i++)
         compare_long(&long_listings[i]);

@@ -252,6 +252,95 @@ static void own_part(const struct own *w)
     }
 }
 
+/* PRODUCTS AND QUOTIENTS at their ends, reckoned by hand: ER0, ER1 and the condition byte before; then what a step answers, and
+   ER1 and the condition byte after. Where the code doesn't say otherwise the source is R0L or R0, the destination R1 or ER1. */
+struct product { const char *what, *code; uint32_t er0, er1, condition, number, states, er1_after, condition_after; };
+static const struct product products[] = {
+    {"MULXU.B FF x FF: all flags stay", "5081", 0xFF, 0xAAAA55FF, 0xFF, 0, 14, 0xAAAAFE01, 0xFF},
+    {"MULXU.B by zero: Z stays clear", "5081", 0x00, 0xFFFFFFFF, 0x00, 0, 14, 0xFFFF0000, 0x00},
+    {"MULXU.B into E1", "5089", 0x02, 0x12805678, 0x0C, 0, 14, 0x01005678, 0x0C},
+    {"MULXU.B R1H,R1", "5011", 0, 0x0000FF02, 0x00, 0, 14, 0x000001FE, 0x00},
+    {"MULXU.B R1L,R1", "5091", 0, 0x0000AA10, 0x00, 0, 14, 0x00000100, 0x00},
+    {"MULXU.W FFFF x FFFF", "5201", 0xFFFF, 0x1234FFFF, 0xFF, 0, 22, 0xFFFE0001, 0xFF},
+    {"MULXU.W E1,ER1", "5291", 0, 0x00030005, 0x00, 0, 22, 0x0000000F, 0x00},
+    {"MULXU.W R1,ER1", "5211", 0, 0xABCD0100, 0x00, 0, 22, 0x00010000, 0x00},
+    {"MULXS.B 80 x 80", "01C05081", 0x80, 0x0080, 0xFF, 0, 16, 0x4000, 0xF3},
+    {"MULXS.B 7F x 80", "01C05081", 0x80, 0x007F, 0x00, 0, 16, 0xC080, 0x08},
+    {"MULXS.B 00 x FF is zero, not negative", "01C05081", 0xFF, 0xFF00, 0xFF, 0, 16, 0x0000, 0xF7},
+    {"MULXS.B FF x FF", "01C05081", 0xFF, 0x00FF, 0x00, 0, 16, 0x0001, 0x00},
+    {"MULXS.B R1H,R1", "01C05011", 0, 0x0000FF02, 0x00, 0, 16, 0x0000FFFE, 0x08},
+    {"MULXS.W 8000 x 8000", "01C05201", 0x8000, 0xFFFF8000, 0xFF, 0, 24, 0x40000000, 0xF3},
+    {"MULXS.W 7FFF x 8000", "01C05201", 0x8000, 0x00007FFF, 0x00, 0, 24, 0xC0008000, 0x08},
+    {"DIVXU.B FEFF by FF, the last that fits", "5181", 0xFF, 0xFEFF, 0x00, 0, 14, 0xFEFF, 0x08},
+    {"DIVXU.B FF00 by FF, the first that doesn't", "5181", 0xFF, 0xFF00, 0x00, 14, 0, 0xFF00, 0x00},
+    {"DIVXU.B 00FF by 01", "5181", 0x01, 0x00FF, 0xFF, 0, 14, 0x00FF, 0xF3},
+    {"DIVXU.B 0100 by 01", "5181", 0x01, 0x0100, 0xFF, 14, 0, 0x0100, 0xFF},
+    {"DIVXU.B 00FF by 80: N is the divisor's top bit", "5181", 0x80, 0x00FF, 0x00, 0, 14, 0x7F01, 0x08},
+    {"DIVXU.B 0000 by 00", "5181", 0x00, 0x0000, 0x00, 14, 0, 0x0000, 0x00},
+    {"DIVXU.B E1 by R0L", "5189", 0x02, 0x01015678, 0x00, 0, 14, 0x01805678, 0x00},
+    {"DIVXU.B R1L,R1", "5191", 0, 0x0510, 0x00, 0, 14, 0x0051, 0x00},
+    {"DIVXU.B R1H,R1 never fits", "5111", 0, 0xFF00, 0x00, 14, 0, 0xFF00, 0x00},
+    {"DIVXU.W FFFEFFFF by FFFF, the last that fits", "5301", 0xFFFF, 0xFFFEFFFF, 0x00, 0, 22, 0xFFFEFFFF, 0x08},
+    {"DIVXU.W FFFF0000 by FFFF, the first that doesn't", "5301", 0xFFFF, 0xFFFF0000, 0x00, 14, 0, 0xFFFF0000, 0x00},
+    {"DIVXU.W 80000000 by 8001", "5301", 0x8001, 0x80000000, 0x00, 0, 22, 0x0002FFFE, 0x08},
+    {"DIVXU.W FFFFFFFF by 0000", "5301", 0x0000, 0xFFFFFFFF, 0x00, 14, 0, 0xFFFFFFFF, 0x00},
+    {"DIVXU.W R1,ER1", "5311", 0, 0x00020003, 0x00, 0, 22, 0x0002AAAB, 0x00},
+    {"DIVXS.B 7 by 2", "01D05181", 0x02, 0x0007, 0xFF, 0, 16, 0x0103, 0xF3},
+    {"DIVXS.B 7 by -2", "01D05181", 0xFE, 0x0007, 0x00, 0, 16, 0x01FD, 0x08},
+    {"DIVXS.B -7 by 2", "01D05181", 0x02, 0xFFF9, 0x00, 0, 16, 0xFFFD, 0x08},
+    {"DIVXS.B -7 by -2", "01D05181", 0xFE, 0xFFF9, 0x00, 0, 16, 0xFF03, 0x00},
+    {"DIVXS.B 3 by -5: the quotient is zero and N is set", "01D05181", 0xFB, 0x0003, 0x00, 0, 16, 0x0300, 0x08},
+    {"DIVXS.B -3 by 5: the same", "01D05181", 0x05, 0xFFFD, 0x00, 0, 16, 0xFD00, 0x08},
+    {"DIVXS.B -3 by -5", "01D05181", 0xFB, 0xFFFD, 0xFF, 0, 16, 0xFD00, 0xF3},
+    {"DIVXS.B 0 by -1: N is set", "01D05181", 0xFF, 0x0000, 0x04, 0, 16, 0x0000, 0x08},
+    {"DIVXS.B 16,384 by -128", "01D05181", 0x80, 0x4000, 0x00, 0, 16, 0x0080, 0x08},
+    {"DIVXS.B 16,511 by -128, the last that fits", "01D05181", 0x80, 0x407F, 0x00, 0, 16, 0x7F80, 0x08},
+    {"DIVXS.B 16,512 by -128, the first that doesn't", "01D05181", 0x80, 0x4080, 0x00, 14, 0, 0x4080, 0x00},
+    {"DIVXS.B -16,383 by -128, the last that fits", "01D05181", 0x80, 0xC001, 0x00, 0, 16, 0x817F, 0x00},
+    {"DIVXS.B -16,384 by -128, the first that doesn't", "01D05181", 0x80, 0xC000, 0x00, 14, 0, 0xC000, 0x00},
+    {"DIVXS.B 127 by 1", "01D05181", 0x01, 0x007F, 0x00, 0, 16, 0x007F, 0x00},
+    {"DIVXS.B 128 by 1", "01D05181", 0x01, 0x0080, 0x00, 14, 0, 0x0080, 0x00},
+    {"DIVXS.B 128 by -1", "01D05181", 0xFF, 0x0080, 0x00, 0, 16, 0x0080, 0x08},
+    {"DIVXS.B 129 by -1", "01D05181", 0xFF, 0x0081, 0x00, 14, 0, 0x0081, 0x00},
+    {"DIVXS.B -128 by 1", "01D05181", 0x01, 0xFF80, 0x00, 0, 16, 0x0080, 0x08},
+    {"DIVXS.B -129 by 1", "01D05181", 0x01, 0xFF7F, 0x00, 14, 0, 0xFF7F, 0x00},
+    {"DIVXS.B -127 by -1", "01D05181", 0xFF, 0xFF81, 0x00, 0, 16, 0x007F, 0x00},
+    {"DIVXS.B -128 by -1", "01D05181", 0xFF, 0xFF80, 0xFF, 14, 0, 0xFF80, 0xFF},
+    {"DIVXS.B 8000 by FF", "01D05181", 0xFF, 0x8000, 0x00, 14, 0, 0x8000, 0x00},
+    {"DIVXS.B 8000 by 00", "01D05181", 0x00, 0x8000, 0x00, 14, 0, 0x8000, 0x00},
+    {"DIVXS.W -7 by 2", "01D05301", 0x0002, 0xFFFFFFF9, 0x00, 0, 24, 0xFFFFFFFD, 0x08},
+    {"DIVXS.W 40007FFF by 8000, the last that fits", "01D05301", 0x8000, 0x40007FFF, 0x00, 0, 24, 0x7FFF8000, 0x08},
+    {"DIVXS.W 40008000 by 8000, the first that doesn't", "01D05301", 0x8000, 0x40008000, 0x00, 14, 0, 0x40008000, 0x00},
+    {"DIVXS.W C0000000 by 8000", "01D05301", 0x8000, 0xC0000000, 0x00, 14, 0, 0xC0000000, 0x00},
+    {"DIVXS.W 32,768 by -1", "01D05301", 0xFFFF, 0x00008000, 0x00, 0, 24, 0x00008000, 0x08},
+    {"DIVXS.W -32,768 by -1", "01D05301", 0xFFFF, 0xFFFF8000, 0x00, 14, 0, 0xFFFF8000, 0x00},
+    {"DIVXS.W 80000000 by FFFF", "01D05301", 0xFFFF, 0x80000000, 0x00, 14, 0, 0x80000000, 0x00},
+    {"DIVXS.W 80000000 by 0000", "01D05301", 0x0000, 0x80000000, 0x00, 14, 0, 0x80000000, 0x00},
+    {"DIVXS.W R1,ER1", "01D05311", 0, 0xFFFFFFFE, 0x00, 0, 24, 0x00000001, 0x00},
+    {"DIVXS.W E1,ER1", "01D05391", 0, 0xFFFFFFFF, 0x00, 0, 24, 0x00000001, 0x00},
+    {"DIVXS.W E1,ER1", "01D05391", 0, 0xFFFF0005, 0x00, 14, 0, 0xFFFF0005, 0x00},
+    {"MULXS.B cut short", "01C0", 0, 0, 0x00, 4, 0, 0, 0x00},
+    {"DIVXS.B by zero, cut short: 4 before 14", "01D0", 0, 1, 0x00, 4, 0, 1, 0x00},
+    {"no code: MULXS after 01D0", "01D05081", 0, 0, 0x00, 3, 0, 0, 0x00},
+    {"no code: DIVXS after 01C0", "01C05181", 0, 0, 0x00, 3, 0, 0, 0x00},
+    {"no code: DIVXU.W with a digit above 7", "5309", 0, 0, 0x00, 3, 0, 0, 0x00},
+};
+
+static void product_of(const struct product *p)
+{
+    struct state s = {.regs = {p->er0, p->er1}};
+    s.rom_n = s.base = from_hex(p->code, s.rom);
+    s.regs[H8_CONDITION] = p->condition;
+    compare_step(&s);
+    uint32_t *regs = (uint32_t *)(void *)regs_lender.now, *answer = (uint32_t *)(void *)answer_lender.now;
+    if (answer[0] != p->number || answer[1] || answer[2] != p->states || regs[0] != p->er0 || regs[1] != p->er1_after
+        || regs[H8_PC] != (p->number ? 0 : s.rom_n) || regs[H8_CONDITION] != p->condition_after) {
+        fail("%s: %u, states %u; wanted %u, states %u, ER1 %08X, CCR %02X", p->what, answer[0], answer[2], p->number, p->states,
+             p->er1_after, p->condition_after);
+        show_registers("after", regs);
+    }
+}
+
 /* BUDGETS. BRA to itself, 4 states a step. */
 struct spent { const char *what; uint32_t stop, budget, base, number; uint64_t steps; int ending; };
 static const struct spent budgets[] = {
@@ -360,6 +449,10 @@ void test_limits(void)
     begin("own parts of @ER+ and @-ER, odd registers, JSR @ER7, RTS");
     for (size_t i = 0; i < sizeof owns / sizeof *owns; i++)
         own_part(&owns[i]);
+    end("steps");
+    begin("products and quotients at their ends, own parts, refusal 14");
+    for (size_t i = 0; i < sizeof products / sizeof *products; i++)
+        product_of(&products[i]);
     end("steps");
     begin("budgets 0, 1, 1,000,000 and 1,000,001, and stop addresses");
     for (size_t i = 0; i < sizeof budgets / sizeof *budgets; i++)

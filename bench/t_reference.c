@@ -1,6 +1,7 @@
 /* The references themselves: the decoder's counts against the ones reckoned from the manual, and the twelve marked examples
    of document 01 with their numbers written out, on the model and on the library. */
 #include "bench.h"
+#include <stdlib.h>
 #include <string.h>
 
 static void expect(const char *what, long got, long wanted)
@@ -11,15 +12,18 @@ static void expect(const char *what, long got, long wanted)
 }
 
 /* 2(I+J+K+L+M)+N from a text such as "I2 L1 N2". */
-static int states_of_cycles(const char *text)
+static long states_of_cycles(const char *text)
 {
-    int sum = 0;
+    long sum = 0;
     for (const char *p = text; *p; p++)
         if (*p >= 'I' && *p <= 'N')
-            sum += (*p == 'N' ? 1 : 2) * (p[1] - '0');
+            sum += (*p == 'N' ? 1 : 2) * strtol(p + 1, NULL, 10);
     return sum;
 }
 
+/* The numbers are reckoned by hand from the code list. Document 01's set has 119 + 41 + 15 + 2 forms and 6,265 + 1,155 + 264 +
+   16 codes. MULXU and DIVXU add four forms of 2 bytes: by byte 16 x 16 codes each, by word 16 x 8, together 2 (256 + 128) =
+   768. MULXS and DIVXS add four forms and 768 codes of 4 bytes. */
 static void count_rows(void)
 {
     long shapes = 0, rows_of[9] = {0}, shapes_of[9] = {0};
@@ -31,36 +35,57 @@ static void count_rows(void)
         shapes_of[length] += here;
         expect(forms[i].name, states_of_cycles(forms[i].cycles), forms[i].states);
     }
-    expect("codes without operands", shapes, 7700);
-    expect("rows of 2 bytes", rows_of[2], 119);
-    expect("rows of 4 bytes", rows_of[4], 41);
+    expect("codes without operands", shapes, 7700 + 2 * 768);
+    expect("rows of 2 bytes", rows_of[2], 119 + 4);
+    expect("rows of 4 bytes", rows_of[4], 41 + 4);
     expect("rows of 6 bytes", rows_of[6], 15);
     expect("rows of 8 bytes", rows_of[8], 2);
-    expect("codes of 2 bytes", shapes_of[2], 6265);
-    expect("codes of 4 bytes", shapes_of[4], 1155);
+    expect("codes of 2 bytes", shapes_of[2], 6265 + 768);
+    expect("codes of 4 bytes", shapes_of[4], 1155 + 768);
     expect("codes of 6 bytes", shapes_of[6], 264);
     expect("codes of 8 bytes", shapes_of[8], 16);
 }
 
+/* Second words with which 01 and `second` are a code or begin one. */
+static long words_after(uint8_t second)
+{
+    struct decoded d;
+    long n = 0;
+    for (unsigned w = 0; w < 65536; w++)
+        n += decode((const uint8_t[]){1, second, (uint8_t)(w >> 8), (uint8_t)w}, 4, &d) != 3;
+    return n;
+}
+
+/* Document 01's set has 52,930 first words that are codes, 1,339 that begin longer ones, and 231 first bytes. To these come
+   the 768 codes of MULXU and DIVXU, with the first bytes 50 to 53, and the words 01C0 and 01D0; after each of these two a byte
+   form (256) and a word form (128). */
 static void count_words(void)
 {
     struct decoded d;
-    long whole = 0, longer = 0, bytes = 0, after_0100 = 0, after_01f0 = 0;
+    long whole = 0, longer = 0, bytes = 0;
     for (unsigned w = 0; w < 65536; w++) {
-        uint8_t b[4] = {(uint8_t)(w >> 8), (uint8_t)w, 0, 0};
-        uint8_t moves[4] = {1, 0, b[0], b[1]}, logic[4] = {1, 0xF0, b[0], b[1]};
+        uint8_t b[2] = {(uint8_t)(w >> 8), (uint8_t)w};
         int a = decode(b, 2, &d);
         whole += a == 0;
         longer += a == 4;
         bytes += b[1] == 0 && decode(b, 1, &d) == 4;
-        after_0100 += decode(moves, 4, &d) != 3;
-        after_01f0 += decode(logic, 4, &d) != 3;
     }
-    expect("first words that are whole codes", whole, 52930);
-    expect("first words that begin a longer code", longer, 1339);
-    expect("first bytes that begin a code", bytes, 231);
-    expect("second words after 0100", after_0100, 416);
-    expect("second words after 01F0", after_01f0, 192);
+    expect("first words that are whole codes", whole, 52930 + 768);
+    expect("first words that begin a longer code", longer, 1339 + 2);
+    expect("first bytes that begin a code", bytes, 231 + 4);
+    expect("second words after 0100", words_after(0x00), 416);
+    expect("second words after 01C0", words_after(0xC0), 384);
+    expect("second words after 01D0", words_after(0xD0), 384);
+    expect("second words after 01F0", words_after(0xF0), 192);
+}
+
+/* The first ONWARD forms are those that go on. */
+static void onward_first(void)
+{
+    for (int i = 0; i < FORMS; i++) {
+        uint8_t k = forms[i].kind;
+        expect(forms[i].name, k == H8_BCC || k == H8_JMP || k == H8_BSR || k == H8_JSR || k == H8_RTS, i >= ONWARD);
+    }
 }
 
 /* How many of the 1,024 (C, H, byte) combinations are adjusted. */
@@ -75,6 +100,34 @@ static long adjusted(uint8_t code)
         n += model_step(&b, regs).number == 0;
     }
     return n;
+}
+
+/* How many of the 65,536 dividends in R1 the byte R0L divides with a quotient that fits. */
+static long divided(const char *code, uint32_t divisor)
+{
+    uint8_t rom[4], ram[1];
+    uint32_t length = from_hex(code, rom);
+    struct board b = {4, rom, length, ram, 0};
+    long n = 0;
+    for (uint32_t x = 0; x < 65536; x++) {
+        uint32_t regs[10] = {divisor, x};
+        n += model_step(&b, regs).number == 0;
+    }
+    return n;
+}
+
+/* A quotient of 0 to 255 by y: the dividends 0 to 256 y - 1. One of -128 to 127: where it is positive sizes up to 128 |y| - 1,
+   where it is negative up to 129 |y| - 1, and zero is counted once: 257 |y| - 1. */
+static void count_quotients(void)
+{
+    static const uint8_t divisors[] = {0x01, 0x02, 0x7F, 0x80, 0x81, 0xFF};
+    for (size_t i = 0; i < sizeof divisors; i++) {
+        long y = divisors[i], size = y < 128 ? y : 256 - y;
+        expect("dividends of DIVXU.B", divided("5181", divisors[i]), 256 * y);
+        expect("dividends of DIVXS.B", divided("01D05181", divisors[i]), 257 * size - 1);
+    }
+    expect("dividends of DIVXU.B by zero", divided("5181", 0), 0);
+    expect("dividends of DIVXS.B by zero", divided("01D05181", 0), 0);
 }
 
 /* No form equals or begins another: a code built of one is decoded as that one. */
@@ -95,9 +148,11 @@ void test_reference(void)
     begin("reference: counts of the set against the manual's");
     count_rows();
     count_words();
+    onward_first();
     no_overlap();
     expect("DAA combinations", adjusted(0x0F), 384);
     expect("DAS combinations", adjusted(0x1F), 380);
+    count_quotients();
     end("checks");
 }
 

@@ -243,8 +243,8 @@ static size_t make_program(uint8_t *rom, const struct board *b)
     while (at + 8 <= b->rom_n) {
         uint8_t code[8];
         int form = (int)below(FORMS);
-        if ((forms[form].kind == H8_BCC || forms[form].kind >= H8_JMP) && below(3))
-            form = (int)below(132);
+        if (form >= ONWARD && below(3))
+            form = (int)below(ONWARD);
         int n = build(form, below(2) ? below(4) : (uint32_t)any(), program_value(b, form), (uint32_t)any(), code);
         memcpy(rom + at, code, (size_t)n);
         at += (size_t)n;

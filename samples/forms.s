@@ -84,6 +84,14 @@ START:
         EXTU.L  ER2
         EXTS.W  R1
         EXTS.L  ER7
+        MULXU.B R3L,R5
+        MULXU.W E2,ER6
+        DIVXU.B R7H,E1
+        DIVXU.W R4,ER3
+        MULXS.B R0H,E6
+        MULXS.W R1,ER5
+        DIVXS.B R2L,R0
+        DIVXS.W E7,ER4
         ADD.B   #H'B9,R1H
         ADDX    #H'82,R2H
         CMP.B   #H'BC,R5L

@@ -1,5 +1,5 @@
-// A step of every form from three states, every condition, marked examples 1 to 9, refusals 1 to 7 and what is easily missed. A line
-// has the state before, how the step went, which of ER0 to ER7 changed, and the rest of the state after. `stdout` is what
+// A step of every form from three states, every condition, marked examples 1 to 9, refusals 1 to 7 and 14 and what is easily missed.
+// A line has the state before, how the step went, which of ER0 to ER7 changed, and the rest of the state after. `stdout` is what
 // bench/step_vectors.c prints, by a model that shares no text with this product.
 use memory::Board;
 use refusal::Outcome;
@@ -8,7 +8,7 @@ use registers::Condition;
 use registers::Registers;
 
 // A code of each form, with what follows it.
-const CODES: [u64; 177] = [
+const CODES: [u64; 185] = [
     0x0000000000000000, // NOP
     0x0203000000000000, // STC.B CCR,Rd
     0x0303000000000000, // LDC.B Rs,CCR
@@ -186,6 +186,14 @@ const CODES: [u64; 177] = [
     0x5E6555D200000000, // JSR @aa:24
     0x5F23000000000000, // JSR @@aa:8
     0x5470000000000000, // RTS
+    0x50FB000000000000, // MULXU.B Rs,Rd
+    0x52C6000000000000, // MULXU.W Rs,ERd
+    0x514F000000000000, // DIVXU.B Rs,Rd
+    0x5315000000000000, // DIVXU.W Rs,ERd
+    0x01C0500B00000000, // MULXS.B Rs,Rd
+    0x01C0522300000000, // MULXS.W Rs,ERd
+    0x01D0511D00000000, // DIVXS.B Rs,Rd
+    0x01D0533600000000, // DIVXS.W Rs,ERd
 ];
 
 const EDGES: [u32; 8] = [
@@ -402,12 +410,12 @@ fn state(seed: u32, state: u32) -> Registers {
 
 fn code(form: usize) -> u64 {
     let t = CODES;
-    t[form % 177]
+    t[form % 185]
 }
 
 // The seed tells the form and which of its three states.
 fn every_form() {
-    for seed in 0..531u32 {
+    for seed in 0..555u32 {
         on_board(seed, code((seed / 3) as usize), state(seed, seed % 3));
     }
 }
@@ -634,6 +642,85 @@ fn bad_writes() {
     small(b"refusal 6: ", AT, 0x5F04000000000000, start(0, 0, 0, 0, 0));
 }
 
+// MULXS behind 01D0; a digit that is no long register; a code that runs past the end, before its divisor is looked at.
+fn bad_multiplications() {
+    small(
+        b"refusal 3: ",
+        AT,
+        0x01D0508100000000,
+        start(0x01, 0x01, 0, 0, 0),
+    );
+    small(
+        b"refusal 3: ",
+        AT,
+        0x5309000000000000,
+        start(0x01, 0x01, 0, 0, 0),
+    );
+    small(b"refusal 4: ", AT, 0x00000000000001D0, start(0, 0, 0, 6, 0));
+}
+
+// By zero; a quotient of 256; by its own upper half; a quotient of 65,536.
+fn bad_divisions() {
+    small(
+        b"refusal 14: ",
+        AT,
+        0x5181000000000000,
+        start(0x00, 0x1234, 0, 0, 0xFF),
+    );
+    small(
+        b"refusal 14: ",
+        AT,
+        0x5181000000000000,
+        start(0x01, 0x0100, 0, 0, 0),
+    );
+    small(
+        b"refusal 14: ",
+        AT,
+        0x5111000000000000,
+        start(0, 0xFF00, 0, 0, 0),
+    );
+    small(
+        b"refusal 14: ",
+        AT,
+        0x0000530100000000,
+        start(0x0001, 0x00010000, 0, 2, 0),
+    );
+}
+
+// By zero; quotients of 128 and -129; by zero; 80000000 by -1.
+fn bad_signed_divisions() {
+    small(
+        b"refusal 14: ",
+        AT,
+        0x01D0518100000000,
+        start(0x00, 0x0000, 0, 0, 0),
+    );
+    small(
+        b"refusal 14: ",
+        AT,
+        0x01D0518100000000,
+        start(0xFF, 0xFF80, 0, 0, 0),
+    );
+    small(
+        b"refusal 14: ",
+        AT,
+        0x01D0518100000000,
+        start(0x80, 0x4080, 0, 0, 0),
+    );
+    small(
+        b"refusal 14: ",
+        AT,
+        0x01D0530100000000,
+        start(0x0000, 0x80000000, 0, 0, 0),
+    );
+    small(
+        b"refusal 14: ",
+        AT,
+        0x01D0530100000000,
+        start(0xFFFF, 0x80000000, 0, 0, 0),
+    );
+}
+
 fn refusals() {
     bad_boards();
     bad_codes();
@@ -644,6 +731,105 @@ fn refusals() {
         AT,
         0x000000001F080000,
         start(0x50, 0, 0, 4, 0x20),
+    );
+    bad_multiplications();
+    bad_divisions();
+    bad_signed_divisions();
+}
+
+// MULXU leaves all flags; the destination's upper half does not matter, but may be the source. -128 by -128; zero by -1.
+fn multiplications() {
+    small(
+        b"multiply: ",
+        AT,
+        0x5081000000000000,
+        start(0x00, 0xAAAA55FF, 0, 0, 0),
+    );
+    small(
+        b"multiply: ",
+        AT,
+        0x5011000000000000,
+        start(0, 0x0000FF02, 0, 0, 0xFF),
+    );
+    small(
+        b"multiply: ",
+        AT,
+        0x5291000000000000,
+        start(0, 0xFFFFFFFF, 0, 0, 0),
+    );
+    small(
+        b"multiply: ",
+        AT,
+        0x01C0508100000000,
+        start(0x80, 0x0080, 0, 0, 0xFF),
+    );
+    small(
+        b"multiply: ",
+        AT,
+        0x01C0508900000000,
+        start(0xFF, 0x12005678, 0, 0, 0x08),
+    );
+    small(
+        b"multiply: ",
+        AT,
+        0x01C0520100000000,
+        start(0x8000, 0xFFFF8000, 0, 0, 0),
+    );
+}
+
+// N is the divisor's top bit; by its own lower half; the largest quotient and remainder.
+fn divisions() {
+    small(
+        b"divide: ",
+        AT,
+        0x5181000000000000,
+        start(0x80, 0x00FF, 0, 0, 0x04),
+    );
+    small(
+        b"divide: ",
+        AT,
+        0x5191000000000000,
+        start(0, 0x0510, 0, 0, 0),
+    );
+    small(
+        b"divide: ",
+        AT,
+        0x5301000000000000,
+        start(0xFFFF, 0xFFFEFFFF, 0, 0, 0),
+    );
+}
+
+// A quotient of zero with N set; a remainder with the dividend's sign; -128 fits, and -32,768; by its own upper half.
+fn signed_divisions() {
+    small(
+        b"divide: ",
+        AT,
+        0x01D0518100000000,
+        start(0xFB, 0x0003, 0, 0, 0),
+    );
+    small(
+        b"divide: ",
+        AT,
+        0x01D0518100000000,
+        start(0xFE, 0xFFF9, 0, 0, 0xFF),
+    );
+    small(
+        b"divide: ",
+        AT,
+        0x01D0518100000000,
+        start(0x80, 0x407F, 0, 0, 0),
+    );
+    small(
+        b"divide: ",
+        AT,
+        0x01D0530100000000,
+        start(0xFFFF, 0x00008000, 0, 0, 0),
+    );
+    small(
+        b"divide: ",
+        AT,
+        0x01D0539100000000,
+        start(0, 0xFFFFFFFF, 0, 0, 0),
     );
 }
 
@@ -684,6 +870,9 @@ fn main() {
     conditions();
     examples();
     refusals();
+    multiplications();
+    divisions();
+    signed_divisions();
     own_parts();
     ends_of_memory();
     vector_in_working_memory();
