@@ -14,4 +14,4 @@ divided-spec =
     (λ c. search needs)
     (λ c κs. search needs)
     (λ c. simp (c .before .before .before .q .given .1, c .did .ensures, c .before .put .ensures))
-    (λ c. rw (c .before .enum-told .given .1) (cc)))
+    (λ c. rw (c .before .enum-told .given .1) (c .refused .ensures)))
