@@ -1,16 +1,15 @@
 -- A signed number is its sign and its size: the definitions go by ℤ, the code by the two. Here they are joined, once for all widths.
 use Prim.Native.Nat.{ℕ, zero, suc, _+_, _-_, _*_, _/_, _%_, _^_, _≤_, _<_}
-use mathlib.Core.Path.{_≡_, refl, sym, _∙_, ap}
-use mathlib.Core.Bool.{Bool, true, false, cond, _&&_, _||_, not, xor}
+use mathlib.Core.Path.{_≡_, refl, _∙_, ap}
+use mathlib.Core.Bool.{Bool, true, false, _||_, not, xor}
 use native.Mathlib.Nat.{mod-lt, mod-self, mod-eq-of-lt, mul-le-mul, zero-mul, mul-zero, sub-zero, zero-mod}
 use native.Mathlib.Omega.{arith}
-use lib.Dec.{leb, ltb, eqb}
+use lib.Dec.{leb, eqb}
 use lib.IntN.{ℤ, pos, negsuc, subℕ, negℤ, _*ℤ_}
 use lib.Pow.{pow-pos}
-use borrow.Author.Tests.{lt-ltb, le-ltb, le-leb, lt-leb, leb-false, eqb-false}
+use borrow.Author.Tests.{lt-ltb, le-ltb, le-leb, lt-leb}
 use Rattle.arith.specs.Widths.{num, topBit, signedOf, fitsIn, movedOf}
 use Rattle.arith.proofs.Signed.{split, fits-sub}
-use Rattle.products.specs.declared.Division.{Division}
 use Rattle.products.specs.declared.Division.the-variants.{Divided, Fails}
 use Rattle.products.specs.Products.{bitsIn, negative, magnitude, withSign, quotientOf, remainderOf, mulxsOf, divxsOf}
 use Rattle.products.specs.MirrorSizes.{Powers, sizeOf, wrapOf}

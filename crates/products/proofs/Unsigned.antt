@@ -1,9 +1,8 @@
 -- What the code of DIVXU finds is what the definition says.
-use Prim.Native.Nat.{ℕ, _+_, _-_, _*_, _/_, _%_, _^_}
+use Prim.Native.Nat.{ℕ, _+_, _*_, _/_, _%_}
 use mathlib.Core.Path.{_≡_}
 use mathlib.Core.Bool.{Bool, true, false, _||_}
 use lib.Dec.{leb, eqb}
-use Rattle.products.specs.declared.Division.{Division}
 use Rattle.products.specs.declared.Division.the-variants.{Divided, Fails}
 use Rattle.products.specs.Products.{divxuOf}
 use Rattle.products.specs.MirrorSizes.{Powers}

@@ -88,6 +88,7 @@ fn join(m: u64, low: u64, high: u64) -> u32
     (high * m + low) as u32
 }
 
+// MULXU: the product of two factors.
 pub fn mulxu(h: Half, a: u32, b: u32) -> u32
     ensures { λ r. ⌜ r ≡ mulxuOf (halfBits h) a b ⌝ }
 {
@@ -97,6 +98,7 @@ pub fn mulxu(h: Half, a: u32, b: u32) -> u32
     (p * q) as u32
 }
 
+// MULXS: the signed product, with N and Z.
 pub fn mulxs(h: Half, a: u32, b: u32) -> Moved
     ensures { λ r. ⌜ r ≡ mulxsOf (halfBits h) a b ⌝ }
 {
@@ -109,6 +111,7 @@ pub fn mulxs(h: Half, a: u32, b: u32) -> Moved
     arith::mov(product_width(h), value as u32)
 }
 
+// DIVXU: the quotient and the remainder of a by b.
 pub fn divxu(h: Half, a: u32, b: u32) -> Division
     ensures { λ r. ⌜ r ≡ divxuOf (halfBits h) a b ⌝ }
 {
@@ -127,6 +130,7 @@ pub fn divxu(h: Half, a: u32, b: u32) -> Division
     }
 }
 
+// DIVXS: the quotient rounds toward zero, and the remainder has the dividend's sign.
 pub fn divxs(h: Half, a: u32, b: u32) -> Division
     ensures { λ r. ⌜ r ≡ divxsOf (halfBits h) a b ⌝ }
 {

@@ -7,6 +7,5 @@ pub divide-spec : {M : Type 1} → statement M
 unfolding divideOf
 divide-spec =
     tie.close
-    (tie.spec (λ c κs. search needs)
-    (λ c κs. search needs)
+    (tie.spec (λ c κs. search needs) (λ c κs. search needs)
     (λ c. simp (c .divided .ensures, c .before .quotients .ensures)))

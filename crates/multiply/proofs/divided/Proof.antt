@@ -8,10 +8,7 @@ pub divided-spec : {M : Type 1} → statement M
 unfolding dividedOf endedOf
 divided-spec =
     tie.close
-    (tie.spec (λ c. search needs)
-    (λ c κs. search needs)
-    (λ c κs. search needs)
-    (λ c. search needs)
+    (tie.spec (λ c. search needs) (λ c κs. search needs) (λ c κs. search needs) (λ c. search needs)
     (λ c κs. search needs)
     (λ c. simp (c .before .before .before .q .given .1, c .did .ensures, c .before .put .ensures))
-    (λ c. rw (c .before .enum-told .given .1) (cc)))
+    (λ c. rw (c .before .enum-told .given .1) (c .refused .ensures)))

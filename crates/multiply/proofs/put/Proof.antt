@@ -8,7 +8,5 @@ pub put-spec : {M : Type 1} → statement M
 unfolding changedOf freshOf putOf
 put-spec =
     tie.close
-    (tie.spec (λ c κs. search needs)
-    (λ c κs. search needs)
-    (λ c κs. search needs)
+    (tie.spec (λ c κs. search needs) (λ c κs. search needs) (λ c κs. search needs)
     (λ c. simp (c .part .ensures, c .before .with-product .ensures, c .before .before .product-width .ensures)))

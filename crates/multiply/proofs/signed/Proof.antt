@@ -7,10 +7,6 @@ pub signed-spec : {M : Type 1} → statement M
 unfolding multiplyOf
 signed-spec =
     tie.close
-    (tie.spec (λ c κs. search needs)
-    (λ c κs. search needs)
-    (λ c κs. search needs)
-    (λ c κs. search needs)
-    (λ c κs. search needs)
-    (λ c κs. search needs)
+    (tie.spec (λ c κs. search needs) (λ c κs. search needs) (λ c κs. search needs) (λ c κs. search needs)
+    (λ c κs. search needs) (λ c κs. search needs)
     (λ c. simp (c .put .ensures, c .before .mulxs .ensures, c .before .before .part2 .ensures, c .before .before .before .factor-width .ensures, c .before .before .before .before .part .ensures, c .before .before .before .before .before .product-width .ensures)))

@@ -9,10 +9,6 @@ pub unsigned-spec : {M : Type 1} → statement M
 unfolding changedOf freshOf withPart multiplyOf
 unsigned-spec =
     tie.close
-    (tie.spec (λ c κs. search needs)
-    (λ c κs. search needs)
-    (λ c κs. search needs)
-    (λ c κs. search needs)
-    (λ c κs. search needs)
-    (λ c κs. search needs)
+    (tie.spec (λ c κs. search needs) (λ c κs. search needs) (λ c κs. search needs) (λ c κs. search needs)
+    (λ c κs. search needs) (λ c κs. search needs)
     (λ c. simp (c .part3 .ensures, c .before .mulxu .ensures, c .before .before .part2 .ensures, c .before .before .before .factor-width .ensures, c .before .before .before .before .part .ensures, c .before .before .before .before .before .before .product-width .ensures)))

@@ -9,10 +9,7 @@ use Rattle.products.proofs.divxu.Tie as tie
 pub divxu-spec : {M : Type 1} → statement M
 divxu-spec =
     tie.close
-    (tie.spec (λ c κs. search needs)
-    (λ c. search needs)
-    (λ c κs. search needs)
-    (λ c κs. search needs)
+    (tie.spec (λ c κs. search needs) (λ c. search needs) (λ c κs. search needs) (λ c κs. search needs)
     (λ c κs. search needs)
     (λ c. divides (c .before .before .cut2 .result) (c .before .before .before .before .power .result) (c .before .quotient .result) (c .if1 .left))
     (λ c κs. (fits (c .before .before .cut2 .result) (c .before .before .before .before .power .result) (c .before .quotient .result) (c .if1 .left), rest _ (divides (c .before .before .cut2 .result) (c .before .before .before .before .power .result) (c .before .quotient .result) (c .if1 .left)) (omega arith), search needs))

@@ -9,9 +9,7 @@ pub mulxu-spec : {M : Type 1} → statement M
 unfolding mulxuOf
 mulxu-spec =
     tie.close
-    (tie.spec (λ c κs. search needs)
-    (λ c κs. search needs)
-    (λ c κs. search needs)
+    (tie.spec (λ c κs. search needs) (λ c κs. search needs) (λ c κs. search needs)
     (λ c. omega (arith, product (c .before .cut .ensures .1) (c .cut2 .ensures .1) (c .before .before .power .ensures .most)))
     (λ c. omega (arith, product (c .before .cut .ensures .1) (c .cut2 .ensures .1) (c .before .before .power .ensures .most)))
     (λ c. cc))

@@ -7,8 +7,6 @@ pub wrapped-spec : {M : Type 1} → statement M
 unfolding wrapOf
 wrapped-spec =
     tie.close
-    (tie.spec (λ c. search needs)
-    (λ c κs. search needs)
-    (λ c κs. search needs)
+    (tie.spec (λ c. search needs) (λ c κs. search needs) (λ c κs. search needs)
     (λ c. rw (c .before .if1 .taken) (search needs))
     (λ c. rw (c .before .if1 .left) (search needs)))
