@@ -151,10 +151,7 @@ fn divide(l: Line, rom: &[u8], p: u32) -> Line
     let a = text::bytes(l, b"14");
     let b = at_place(a, p);
     let c = stands(b, rom, p);
-    text::bytes(
-        c,
-        b" by zero, or with a quotient that does not fit",
-    )
+    text::bytes(c, b" by zero, or with a quotient that does not fit")
 }
 
 fn entry(l: Line, n: usize, p: u32) -> Line
