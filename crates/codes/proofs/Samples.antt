@@ -3,9 +3,9 @@
 use Prim.Native.Nat.{ℕ}
 use mathlib.Core.Path.{_≡_, refl}
 use mathlib.Core.List.{List, [], _∷_, map}
-use Rattle.codes.specs.Names.{Byte, Word, Long, Add, Sub, Cmp, Mov, Addx, Or, Reg, Imm, Up, Down, One, Two, Four, Shal, Rotxr, Not, Exts, Orc}
+use Rattle.codes.specs.Names.{Byte, Word, Long, Add, Sub, Cmp, Mov, Addx, Or, Reg, Imm, Up, Down, One, Two, Four, Shal, Rotxr, Not, Exts, Eight, Sixteen, Unsigned, Signed, Orc}
 use Rattle.codes.specs.Names.{Load, Store, At, Step, Disp, Abs8, Abs24, Near, Far, ByReg, Direct, Vector}
-use Rattle.codes.specs.Names.{Instruction, Nop, Stc, LdcReg, Ccr, Alu, IncDec, AddsSubs, Decimal, Shift, Unary, Move, Bcc, Jmp, Bsr, Jsr, Rts}
+use Rattle.codes.specs.Names.{Instruction, Nop, Stc, LdcReg, Ccr, Alu, IncDec, AddsSubs, Decimal, Shift, Unary, Multiply, Divide, Move, Bcc, Jmp, Bsr, Jsr, Rts}
 use Rattle.codes.specs.Code.{codeOf}
 use Rattle.codes.specs.States.{statesOf}
 
@@ -32,6 +32,10 @@ rows =
     ∷ (Shift Rotxr Word 0xA, 0x13 ∷ 0x1A ∷ [], 2)
     ∷ (Unary Not Long 1, 0x17 ∷ 0x31 ∷ [], 2)
     ∷ (Unary Exts Word 1, 0x17 ∷ 0xD1 ∷ [], 2)
+    ∷ (Multiply Unsigned Eight 8 9, 0x50 ∷ 0x89 ∷ [], 14)
+    ∷ (Divide Unsigned Sixteen 8 7, 0x53 ∷ 0x87 ∷ [], 22)
+    ∷ (Multiply Signed Sixteen 8 7, 0x01 ∷ 0xC0 ∷ 0x52 ∷ 0x87 ∷ [], 24)
+    ∷ (Divide Signed Eight 8 9, 0x01 ∷ 0xD0 ∷ 0x51 ∷ 0x89 ∷ [], 16)
     ∷ (Alu Cmp Byte (Imm 0xFF) 8, 0xA8 ∷ 0xFF ∷ [], 2)
     ∷ (Alu Sub Word (Imm 0x1234) 1, 0x79 ∷ 0x31 ∷ 0x12 ∷ 0x34 ∷ [], 4)
     ∷ (Alu Mov Long (Imm 0x12345678) 7, 0x7A ∷ 0x07 ∷ 0x12 ∷ 0x34 ∷ 0x56 ∷ 0x78 ∷ [], 6)

@@ -1,3 +1,4 @@
 pub mod Room
 pub mod Signs
 pub mod Unsigned
+mod Samples
