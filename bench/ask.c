@@ -6,6 +6,7 @@
      ask code FILE               a ROM with every form eight times from 0x8000 on, for a listing that is assembled again
      ask states ROM              place, bytes and states of each instruction by the table of forms, as the manual has them */
 #include "decoder.h"
+#include "file.h"
 #include <stdio.h>
 #include <stdlib.h>
 #include <string.h>
@@ -17,16 +18,7 @@ static uint8_t rom[ROM_ROOM], ram[H8_RAM_MAX];
 static uint64_t table[H8_ROM_MAX];
 static size_t rom_n;
 
-static void load(const char *path)
-{
-    FILE *f = fopen(path, "rb");
-    if (!f) {
-        perror(path);
-        exit(2);
-    }
-    rom_n = fread(rom, 1, sizeof rom, f);
-    fclose(f);
-}
+static void load(const char *path) { rom_n = read_file(path, rom, sizeof rom); }
 
 static void save(const char *path)
 {

@@ -1,6 +1,7 @@
 /* The library's speed against plain C that holds the same set and makes the same checks (plain.c), in one run: each pair of
    measurements is taken one right behind the other, and the ratio is the median of the pairs'. Time is the process's own.
    speed SAMPLES */
+#include "file.h"
 #include "plain.h"
 #include <stdio.h>
 #include <stdlib.h>
@@ -28,13 +29,7 @@ static void load(const char *folder, const char *name)
 {
     char path[500];
     snprintf(path, sizeof path, "%s/%s.bin", folder, name);
-    FILE *f = fopen(path, "rb");
-    if (!f) {
-        perror(path);
-        exit(2);
-    }
-    rom_n = fread(rom, 1, sizeof rom, f);
-    fclose(f);
+    rom_n = read_file(path, rom, sizeof rom);
 }
 
 /* Runs again and again from `pc` until so many steps are done. Answers the steps. */
