@@ -1,8 +1,8 @@
 -- The rows of DAA and of DAS are disjoint, by one computed test over each table, so the row that fits is one.
-use Prim.Native.Nat.{ℕ, zero, suc, _/_, _%_, _<_}
-use mathlib.Core.Path.{_≡_, refl}
+use Prim.Native.Nat.{ℕ, zero, suc, _+_, _-_, _*_, _/_, _%_, _≤_, _<_}
+use mathlib.Core.Path.{_≡_, refl, sym, _∙_}
 use mathlib.Core.Bool.{Bool, true, false, _&&_, not}
-use mathlib.Core.List.{List, [], _∷_}
+use mathlib.Core.List.{List}
 use native.Mathlib.Omega.{arith}
 use lib.Dec.{leb, eqb}
 use lib.ListN.{getD, length}
@@ -11,6 +11,7 @@ use Rattle.arith.specs.Widths.{num}
 use Rattle.arith.specs.Decimal.{fitsRow, findRow, adjustOf, daaRows, dasRows}
 use Rattle.arith.specs.declared.Adjust.{Adjust}
 use Rattle.arith.specs.declared.Adjust.the-variants.{Adding, NoRow}
+use Rattle.arith.proofs.Signed.{split}
 
 both : (p q : Bool) → p && q ≡ true → (p ≡ true) × (q ≡ true)
 both true true e = (refl, refl)
@@ -18,13 +19,13 @@ both true false e = let z : _≡_ {A = ℕ} 0 1 = cc in absurd (omega arith)
 both false q e = let z : _≡_ {A = ℕ} 0 1 = cc in absurd (omega arith)
 
 -- two rows have C, H and a byte in common
-abbrev overlap : List ℕ → List ℕ → Bool
-overlap r s =
-    eqb (getD r 0 0) (getD s 0 0) && eqb (getD r 3 0) (getD s 3 0) && leb (getD r 1 0) (getD s 2 0)
-    && leb (getD s 1 0) (getD r 2 0) && leb (getD r 4 0) (getD s 5 0) && leb (getD s 4 0) (getD r 5 0)
+abbrev overlap : List ℕ → ℕ → ℕ → Bool
+overlap t a b =
+    eqb (getD t a 0) (getD t b 0) && eqb (getD t (a + 3) 0) (getD t (b + 3) 0) && leb (getD t (a + 1) 0) (getD t (b + 2) 0)
+    && leb (getD t (b + 1) 0) (getD t (a + 2) 0) && leb (getD t (a + 4) 0) (getD t (b + 5) 0) && leb (getD t (b + 4) 0) (getD t (a + 5) 0)
 
-meet : (r s : List ℕ) (c h v : ℕ) → fitsRow r c h v ≡ true → fitsRow s c h v ≡ true → overlap r s ≡ true
-meet r s c h v p q =
+meet : (t : List ℕ) (a b c h v : ℕ) → fitsRow t a c h v ≡ true → fitsRow t b c h v ≡ true → overlap t a b ≡ true
+meet t a b c h v p q =
     let p5 = both _ _ p in
     let p4 = both _ _ (p5 .0) in
     let p3 = both _ _ (p4 .0) in
@@ -35,65 +36,76 @@ meet r s c h v p q =
     let q3 = both _ _ (q4 .0) in
     let q2 = both _ _ (q3 .0) in
     let q1 = both _ _ (q2 .0) in
-    let pc = eqb-true (getD r 0 0) c (p1 .0) in
-    let pu = leb-true (getD r 1 0) (v / 16 % 16) (p1 .1) in
-    let pw = leb-true (v / 16 % 16) (getD r 2 0) (p2 .1) in
-    let ph = eqb-true (getD r 3 0) h (p3 .1) in
-    let pl = leb-true (getD r 4 0) (v % 16) (p4 .1) in
-    let pm = leb-true (v % 16) (getD r 5 0) (p5 .1) in
-    let qc = eqb-true (getD s 0 0) c (q1 .0) in
-    let qu = leb-true (getD s 1 0) (v / 16 % 16) (q1 .1) in
-    let qw = leb-true (v / 16 % 16) (getD s 2 0) (q2 .1) in
-    let qh = eqb-true (getD s 3 0) h (q3 .1) in
-    let ql = leb-true (getD s 4 0) (v % 16) (q4 .1) in
-    let qm = leb-true (v % 16) (getD s 5 0) (q5 .1) in
+    let pc = eqb-true (getD t a 0) c (p1 .0) in
+    let pu = leb-true (getD t (a + 1) 0) (v / 16 % 16) (p1 .1) in
+    let pw = leb-true (v / 16 % 16) (getD t (a + 2) 0) (p2 .1) in
+    let ph = eqb-true (getD t (a + 3) 0) h (p3 .1) in
+    let pl = leb-true (getD t (a + 4) 0) (v % 16) (p4 .1) in
+    let pm = leb-true (v % 16) (getD t (a + 5) 0) (p5 .1) in
+    let qc = eqb-true (getD t b 0) c (q1 .0) in
+    let qu = leb-true (getD t (b + 1) 0) (v / 16 % 16) (q1 .1) in
+    let qw = leb-true (v / 16 % 16) (getD t (b + 2) 0) (q2 .1) in
+    let qh = eqb-true (getD t (b + 3) 0) h (q3 .1) in
+    let ql = leb-true (getD t (b + 4) 0) (v % 16) (q4 .1) in
+    let qm = leb-true (v % 16) (getD t (b + 5) 0) (q5 .1) in
     rw (
-      eq-eqb (getD r 0 0) (getD s 0 0) (omega arith),
-      eq-eqb (getD r 3 0) (getD s 3 0) (omega arith),
-      le-leb (getD r 1 0) (getD s 2 0) (omega arith),
-      le-leb (getD s 1 0) (getD r 2 0) (omega arith),
-      le-leb (getD r 4 0) (getD s 5 0) (omega arith),
-      le-leb (getD s 4 0) (getD r 5 0) (omega arith),
+      eq-eqb (getD t a 0) (getD t b 0) (omega arith),
+      eq-eqb (getD t (a + 3) 0) (getD t (b + 3) 0) (omega arith),
+      le-leb (getD t (a + 1) 0) (getD t (b + 2) 0) (omega arith),
+      le-leb (getD t (b + 1) 0) (getD t (a + 2) 0) (omega arith),
+      le-leb (getD t (a + 4) 0) (getD t (b + 5) 0) (omega arith),
+      le-leb (getD t (b + 4) 0) (getD t (a + 5) 0) (omega arith),
     )
 
--- a row meets none of a table's; and so does each row of a table with those after it
-unfoldable free : List ℕ → List (List ℕ) → Bool
-free r [] = true
-free r (s ∷ t) = not (overlap r s) && free r t
+-- row i meets none of the first j rows; and so for each of the first n rows
+unfoldable free : List ℕ → ℕ → ℕ → Bool
+free t i zero = true
+free t i (suc j) = free t i j && not (overlap t (8 * j) (8 * i))
 
-unfoldable allFree : List (List ℕ) → Bool
-allFree [] = true
-allFree (r ∷ t) = free r t && allFree t
+unfoldable allFree : List ℕ → ℕ → Bool
+allFree t zero = true
+allFree t (suc i) = allFree t i && free t i i
 
-module _ (c h v : ℕ) where
-  -- a row that meets none of those of which one fits does not fit
-  unfit : (r : List ℕ) (t : List (List ℕ)) (j : ℕ) → free r t ≡ true → j < length t → fitsRow (getD t j []) c h v ≡ true → (b : Bool) → fitsRow r c h v ≡ b → b ≡ false
-  unfolding free
-  unfit r t j e l f false x = refl
-  unfit r [] j e l f true x = absurd (omega arith)
-  unfit r (s ∷ t) zero e l f true x =
-      let n = not-true (overlap r s) (both (not (overlap r s)) (free r t) e .0) in
-      let m = meet r s c h v x f in
+free-at : (t : List ℕ) (i k j : ℕ) → free t i k ≡ true → j < k → overlap t (8 * j) (8 * i) ≡ false
+unfolding free
+free-at t i zero j e l = absurd (omega arith)
+free-at t i (suc k) j e l =
+    let f = both (free t i k) (not (overlap t (8 * k) (8 * i))) e in
+    split j k (λ m. free-at t i k j (f .0) m)
+    (λ m. let s : j ≡ k = omega arith in rw s (not-true (overlap t (8 * k) (8 * i)) (f .1)))
+
+all-at : (t : List ℕ) (n i : ℕ) → allFree t n ≡ true → i < n → free t i i ≡ true
+unfolding allFree
+all-at t zero i e l = absurd (omega arith)
+all-at t (suc n) i e l =
+    let f = both (allFree t n) (free t n n) e in
+    split i n (λ m. all-at t n i (f .0) m) (λ m. let s : i ≡ n = omega arith in rw s (f .1))
+
+module _ (t : List ℕ) (test : allFree t (length t / 8) ≡ true) (c h v : ℕ) where
+  earlier : (i j : ℕ) → i < j → j < length t / 8 → fitsRow t (8 * j) c h v ≡ true → (b : Bool) → fitsRow t (8 * i) c h v ≡ b → b ≡ false
+  earlier i j l m f true e =
+      let x = free-at t j j i (all-at t (length t / 8) j test m) l in
+      let y = meet t (8 * i) (8 * j) c h v e f in
       let z : _≡_ {A = ℕ} 0 1 = cc in
       absurd (omega arith)
-  unfit r (s ∷ t) (suc j) e l f true x = unfit r t j (both (not (overlap r s)) (free r t) e .1) (omega arith) f true x
+  earlier i j l m f false e = refl
 
-  -- the row that fits is the one that is found
-  one-row : (t : List (List ℕ)) (j : ℕ) → allFree t ≡ true → j < length t → fitsRow (getD t j []) c h v ≡ true
-      → findRow t c h v ≡ Adding (getD (getD t j []) 6 0) (eqb (getD (getD t j []) 7 0) 1)
-  unfolding findRow allFree
-  one-row [] j e l f = absurd (omega arith)
-  one-row (r ∷ t) zero e l f = rw f
-  one-row (r ∷ t) (suc j) e l f =
-      let b = both (free r t) (allFree t) e in
-      rw (unfit r t j (b .0) (omega arith) f (fitsRow r c h v) refl) (one-row t j (b .1) (omega arith) f)
+  from : (n i j : ℕ) → i ≤ j → j < i + n → j < length t / 8 → fitsRow t (8 * j) c h v ≡ true
+      → findRow t i n c h v ≡ Adding (getD t (8 * j + 6) 0) (eqb (getD t (8 * j + 7) 0) 1)
+  unfolding findRow
+  from zero i j l k m f = absurd (omega arith)
+  from (suc n) i j l k m f =
+      split i j
+      (λ p. rw (earlier i j p m f (fitsRow t (8 * i) c h v) refl) (from n (i + 1) j (omega arith) (omega arith) m f))
+      (λ p. let s : i ≡ j = omega arith in rw (s, f))
 
-pub daa-row : (j : ℕ) (c h : Bool) (v : ℕ) → j < 9 → fitsRow (getD daaRows j []) (num c) (num h) v ≡ true
-    → adjustOf daaRows c h v ≡ Adding (getD (getD daaRows j []) 6 0) (eqb (getD (getD daaRows j []) 7 0) 1)
+-- the row that fits is the one that is found
+pub daa-row : (j : ℕ) (c h : Bool) (v : ℕ) → j < 9 → fitsRow daaRows (8 * j) (num c) (num h) v ≡ true
+    → adjustOf daaRows c h v ≡ Adding (getD daaRows (8 * j + 6) 0) (eqb (getD daaRows (8 * j + 7) 0) 1)
 unfolding adjustOf allFree free
-daa-row j c h v l f = one-row (num c) (num h) v daaRows j refl l f
+daa-row j c h v l f = from daaRows refl (num c) (num h) v 9 0 j (omega arith) (omega arith) l f
 
-pub das-row : (j : ℕ) (c h : Bool) (v : ℕ) → j < 4 → fitsRow (getD dasRows j []) (num c) (num h) v ≡ true
-    → adjustOf dasRows c h v ≡ Adding (getD (getD dasRows j []) 6 0) (eqb (getD (getD dasRows j []) 7 0) 1)
+pub das-row : (j : ℕ) (c h : Bool) (v : ℕ) → j < 4 → fitsRow dasRows (8 * j) (num c) (num h) v ≡ true
+    → adjustOf dasRows c h v ≡ Adding (getD dasRows (8 * j + 6) 0) (eqb (getD dasRows (8 * j + 7) 0) 1)
 unfolding adjustOf allFree free
-das-row j c h v l f = one-row (num c) (num h) v dasRows j refl l f
+das-row j c h v l f = from dasRows refl (num c) (num h) v 4 0 j (omega arith) (omega arith) l f

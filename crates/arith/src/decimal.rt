@@ -1,7 +1,9 @@
 // DAA and DAS by document 01's rows: C before, upper digit from and to, H, lower digit from and to, added value, C after.
 use crate::Adjust;
 ghost use mathlib.Core.Path.{_≡_};
-ghost use Rattle.arith.specs.Decimal.{fitsRow, adjustOf, daaRows, dasRows};
+ghost use Rattle.arith.specs.Widths.{num};
+ghost use Rattle.arith.specs.Decimal.{adjustOf, daaRows, dasRows};
+ghost use Rattle.arith.specs.MirrorRows.{fitsIn, findIn};
 
 pub const DAA: [[u8; 8]; 9] = [
     [0, 0x0, 0x9, 0, 0x0, 0x9, 0x00, 0],
@@ -30,7 +32,7 @@ fn wide(x: u8) -> u64
 
 // Whether a row fits.
 fn fits(row: &[u8; 8], c: u64, h: u64, v: u32) -> bool
-    ensures { λ r. ⌜ r ≡ fitsRow (now (row .entry)) c h v ⌝ }
+    ensures { λ r. ⌜ r ≡ fitsIn (now (row .entry)) c h v ⌝ }
 {
     let up = (v / 16 % 16) as u64;
     let low = (v % 16) as u64;
@@ -44,7 +46,7 @@ fn fits(row: &[u8; 8], c: u64, h: u64, v: u32) -> bool
 
 // The row of a table that fits.
 fn find(t: &[[u8; 8]], c: bool, h: bool, v: u32) -> Adjust
-    ensures { λ r. ⌜ r ≡ adjustOf (now (t .entry)) c h v ⌝ }
+    ensures { λ r. ⌜ r ≡ findIn (now (t .entry)) (num c) (num h) v ⌝ }
 {
     let x = crate::number(c);
     let y = crate::number(h);

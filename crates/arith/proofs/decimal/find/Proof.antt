@@ -8,7 +8,7 @@ use native.Mathlib.Omega.{arith}
 use lib.ListN.{getD, length, drop}
 use lib.Seq.{drop-cons, drop-length}
 use lib.Dec.{eqb}
-use Rattle.arith.specs.Decimal.{fitsRow, findRow, adjustOf}
+use Rattle.arith.specs.MirrorRows.{fitsIn, findIn}
 use Rattle.arith.specs.declared.Adjust.{Adjust}
 use Rattle.arith.specs.declared.Adjust.the-variants.{Adding, NoRow}
 use Rattle.arith.proofs.decimal.find.Statement.{statement}
@@ -16,20 +16,20 @@ use Rattle.arith.proofs.decimal.find.Tie as tie
 
 -- the row fits, or the search goes on after it
 module _ (t : List (List ℕ)) (k c h v : ℕ) where
-  found : k < length t → fitsRow (getD t k []) c h v ≡ true → findRow (drop k t) c h v ≡ Adding (getD (getD t k []) 6 0) (eqb (getD (getD t k []) 7 0) 1)
-  unfolding findRow
+  found : k < length t → fitsIn (getD t k []) c h v ≡ true → findIn (drop k t) c h v ≡ Adding (getD (getD t k []) 6 0) (eqb (getD (getD t k []) 7 0) 1)
+  unfolding findIn
   found l f = rw (drop-cons t k [] l, f)
 
-  passed : k < length t → fitsRow (getD t k []) c h v ≡ false → findRow (drop k t) c h v ≡ findRow (drop (k + 1) t) c h v
-  unfolding findRow
+  passed : k < length t → fitsIn (getD t k []) c h v ≡ false → findIn (drop k t) c h v ≡ findIn (drop (k + 1) t) c h v
+  unfolding findIn
   passed l f = rw (add-one, drop-cons t k [] l, f)
 
-  none : k ≡ length t → findRow (drop k t) c h v ≡ NoRow
-  unfolding findRow
+  none : k ≡ length t → findIn (drop k t) c h v ≡ NoRow
+  unfolding findIn
   none e = rw (e, drop-length)
 
 abbrev Inv-loop : tie.InvT-loop
-Inv-loop t c h v x y k₀ k = (k ≤ length t) × (findRow (drop k t) x y v ≡ findRow t x y v)
+Inv-loop t c h v x y k₀ k = (k ≤ length t) × (findIn (drop k t) x y v ≡ findIn t x y v)
 
 abbrev μ-loop : tie.MeasureT-loop
 μ-loop t c h v x y k₀ k = length t - k
@@ -59,7 +59,6 @@ array-read-t20 : tie.Need-array-read-t20 Inv-loop μ-loop
 array-read-t20 c = search needs
 
 returns : tie.Need-returns Inv-loop μ-loop
-unfolding adjustOf
 returns c =
     let e = c .before .before .before .before .before in
     let a = e .before .before .before .args in
@@ -72,7 +71,6 @@ loop-less : tie.Need-loop-less Inv-loop μ-loop
 loop-less c = search needs
 
 loop-again : tie.Need-loop-again Inv-loop μ-loop
-unfolding adjustOf
 loop-again c =
     let e = c .before .before .before .before .before in
     let a = e .before .before .before .args in (
@@ -81,7 +79,6 @@ loop-again c =
     )
 
 returns-2 : tie.Need-returns-2 Inv-loop μ-loop
-unfolding adjustOf
 returns-2 c =
     let e = c .before in
     let a = e .before .before .before .args in
