@@ -3,6 +3,7 @@ use crate::ask;
 use crate::fault;
 use crate::fault::Got;
 use arith::Width;
+use asking::Kind;
 use registers::Condition;
 use registers::Registers;
 
@@ -79,14 +80,21 @@ fn er(plain: bool, s: Begun, i: usize) -> Begun {
     with_er(s, n, v)
 }
 
+// What argument i sets.
+fn set_at(plain: bool, s: Begun, k: Kind, i: usize) -> Begun {
+    if let Kind::ErOption = k {
+        er(plain, s, i)
+    } else {
+        s
+    }
+}
+
 // Registers are 0 but for those that --er sets, and PC, which is the entry; all flags are 0.
 pub fn start(plain: bool, count: usize, entry: u32) -> Begun {
     let mut s = cleared(entry);
     let mut i: usize = 1;
     while i < count {
-        if ask::is(i, b"--er") {
-            s = er(plain, s, i);
-        }
+        s = set_at(plain, s, ask::kind_at(i), i);
         i += 1;
     }
     s

@@ -4,46 +4,16 @@ mod asked;
 mod fault;
 mod file;
 mod help;
+mod places;
 mod runs;
+mod show;
 
 use ask::Request;
+use asking::Use;
 use fault::Got;
+use figure::Verdict;
 use file::Loaded;
-use printing::Gap;
-
-// The uses, by their names.
-enum Use {
-    Figure,
-    Way,
-    List,
-    Run,
-    Help,
-    NoUse,
-}
-
-fn used(q: Request) -> Use {
-    let i = q.first;
-    if i == 0 {
-        return Use::Help;
-    }
-    if ask::is(i, b"help") {
-        return Use::Help;
-    }
-    if ask::is(i, b"figure") {
-        return Use::Figure;
-    }
-    if ask::is(i, b"way") {
-        return Use::Way;
-    }
-    if ask::is(i, b"list") {
-        return Use::List;
-    }
-    if ask::is(i, b"run") {
-        Use::Run
-    } else {
-        Use::NoUse
-    }
-}
+use lines::Gap;
 
 fn either(a: usize, b: usize) -> usize {
     if a != 0 { a } else { b }
@@ -52,11 +22,11 @@ fn either(a: usize, b: usize) -> usize {
 // The first word that a use has no place for.
 fn surplus(q: Request, u: Use) -> usize {
     match u {
-        Use::Figure => q.extra,
-        Use::Way => either(q.fourth, q.extra),
-        Use::List => q.extra,
-        Use::Run => either(q.fourth, q.extra),
-        Use::Help => either(q.second, q.extra),
+        Use::ForFigure => q.extra,
+        Use::ForWay => either(q.fourth, q.extra),
+        Use::ForList => q.extra,
+        Use::ForRun => either(q.fourth, q.extra),
+        Use::ForHelp => either(q.second, q.extra),
         Use::NoUse => 0,
     }
 }
@@ -65,11 +35,11 @@ fn surplus(q: Request, u: Use) -> usize {
 fn astray(q: Request, u: Use) -> usize {
     let i = either(either(q.ram, q.budget), either(q.stop, q.er));
     match u {
-        Use::Figure => i,
-        Use::Way => i,
-        Use::List => i,
-        Use::Run => 0,
-        Use::Help => i,
+        Use::ForFigure => i,
+        Use::ForWay => i,
+        Use::ForList => i,
+        Use::ForRun => 0,
+        Use::ForHelp => i,
         Use::NoUse => 0,
     }
 }
@@ -134,7 +104,7 @@ fn gap(q: Request) -> Got {
 
 fn figure_of(plain: bool, rom: &[u8], table: &mut [u64], entry: u32, gap: Gap) {
     let v = figure::figure(rom, entry, table);
-    printing::figure(rom, v, entry, gap, plain);
+    show::write(lines::figure(text::blank(), rom, v, entry, gap, plain));
 }
 
 fn figure_in(q: Request, rom: &[u8], table: &mut [u64], entry: u32) {
@@ -156,8 +126,10 @@ fn figure(q: Request, rom: &[u8], table: &mut [u64]) {
 }
 
 fn way_of(plain: bool, rom: &[u8], table: &mut [u64], entry: u32) {
-    let v = figure::figure(rom, entry, table);
-    printing::way(rom, &table[..], v, entry, plain);
+    match figure::figure(rom, entry, table) {
+        Verdict::Longest(n) => places::way(rom, &table[..], entry, n, plain),
+        Verdict::Forbids(f) => show::write(lines::refused(text::blank(), rom, f, plain)),
+    }
 }
 
 fn way(q: Request, rom: &[u8], table: &mut [u64]) {
@@ -176,7 +148,7 @@ fn word_or(q: Request, name: &[u8], i: usize, otherwise: u64) -> Got {
 
 fn list_of(plain: bool, rom: &[u8], table: &mut [u64], from: usize, to: usize) {
     figure::figure(rom, 0, table);
-    printing::list(rom, &table[..], from, to, plain);
+    places::list(rom, &table[..], from, to, plain);
 }
 
 // Whether the first place can't be listed; then a line has said so.
@@ -215,11 +187,11 @@ fn list(q: Request, rom: &[u8], table: &mut [u64]) {
 
 fn answer(q: Request, u: Use, rom: &[u8], table: &mut [u64]) {
     match u {
-        Use::Figure => figure(q, rom, table),
-        Use::Way => way(q, rom, table),
-        Use::List => list(q, rom, table),
-        Use::Run => {}
-        Use::Help => {}
+        Use::ForFigure => figure(q, rom, table),
+        Use::ForWay => way(q, rom, table),
+        Use::ForList => list(q, rom, table),
+        Use::ForRun => {}
+        Use::ForHelp => {}
         Use::NoUse => {}
     }
 }
@@ -265,27 +237,22 @@ fn run_room(q: Request) {
     run_arrays(q, &mut rom, &mut ram);
 }
 
-// As other programs ask for it.
-fn asks_help() -> bool {
-    ask::is(1, b"--help") | ask::is(1, b"-h")
-}
-
 fn main() {
-    if asks_help() {
+    if ask::asks_help() {
         help::show_help();
         return;
     }
     let q = ask::requested();
-    let u = used(q);
+    let u = ask::use_at(q.first);
     if faulty(q, u) {
         return;
     }
     match u {
-        Use::Figure => with_room(q, u),
-        Use::Way => with_room(q, u),
-        Use::List => with_room(q, u),
-        Use::Run => run_room(q),
-        Use::Help => help::show_help(),
+        Use::ForFigure => with_room(q, u),
+        Use::ForWay => with_room(q, u),
+        Use::ForList => with_room(q, u),
+        Use::ForRun => run_room(q),
+        Use::ForHelp => help::show_help(),
         Use::NoUse => fault::wrong(
             q.plain,
             b"the use",

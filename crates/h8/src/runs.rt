@@ -3,8 +3,9 @@ use crate::ask::Request;
 use crate::asked;
 use crate::fault;
 use crate::fault::Got;
+use crate::show;
+use lines::Given;
 use memory::Board;
-use printing::Given;
 use registers::Registers;
 
 // A stop address that PC never holds.
@@ -12,7 +13,8 @@ const NEVER: u64 = 16777215;
 
 fn go(rom: &[u8], ram: &mut [u8], g: Given, r: Registers, plain: bool) {
     let a = run::run(Board { base: g.base }, rom, ram, r, g.stop, g.budget);
-    printing::run(rom, g, a, plain);
+    show::write(lines::ran(text::blank(), rom, g, a, plain));
+    show::write(lines::registers(text::blank(), a, plain));
 }
 
 fn lent(rom: &[u8], ram: &mut [u8], g: Given, r: Registers, plain: bool) {
@@ -77,7 +79,6 @@ fn with_length(q: Request, rom: &[u8], ram: &mut [u8], entry: u32, base: u32) {
         return;
     };
     let g = Given {
-        rom: rom.len(),
         entry: entry,
         base: base,
         length: small(length),
