@@ -251,7 +251,7 @@ fn registers_plain(l: Line, r: Registers) -> Line
     text::bytes(flags_plain(c, f), b"\n")
 }
 
-fn either(l: Line, r: Registers, plain: bool) -> Line
+fn held(l: Line, r: Registers, plain: bool) -> Line
     ensures { λ q. ⌜ Adds l (registersText r plain) q ⌝ }
 {
     if plain {
@@ -268,7 +268,7 @@ pub fn registers(l: Line, a: RunAnswer, plain: bool) -> Line
     let r = a.regs;
     let e = a.why;
     if has_begun(e) {
-        either(l, r, plain)
+        held(l, r, plain)
     } else {
         text::bytes(l, b"")
     }

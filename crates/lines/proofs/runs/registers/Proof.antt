@@ -8,5 +8,5 @@ unfolding heldText
 registers-spec =
     tie.close
     (tie.spec (λ c κs. search needs) (λ c κs. search needs) (λ c. search needs) (λ c κs. search needs)
-    (λ c. rw (← (c .before .before .has-begun .ensures), c .before .if1 .taken) (c .either .ensures))
+    (λ c. rw (← (c .before .before .has-begun .ensures), c .before .if1 .taken) (c .held .ensures))
     (λ c. rw (← (c .before .before .before .has-begun .ensures), c .before .before .if1 .left) (c .bytes .ensures)))
