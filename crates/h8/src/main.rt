@@ -44,48 +44,38 @@ fn astray(q: Request, u: Use) -> usize {
     }
 }
 
-fn unknown(q: Request) -> bool {
-    let i = q.unknown;
+// Whether argument i is wrong; then a line has said so.
+fn told(plain: bool, name: &[u8], i: usize, expected: &[u8]) -> bool {
     if i != 0 {
-        fault::wrong(
-            q.plain,
-            b"the option",
-            i,
-            b"--plain, --ram, --budget, --stop or --er; `h8 help` says more",
-        );
-    }
-    i != 0
-}
-
-fn too_many(q: Request, u: Use) -> bool {
-    let i = surplus(q, u);
-    if i != 0 {
-        fault::wrong(q.plain, b"a word too many", i, b"what `h8 help` says");
-    }
-    i != 0
-}
-
-fn misplaced(q: Request, u: Use) -> bool {
-    let i = astray(q, u);
-    if i != 0 {
-        fault::wrong(q.plain, b"the option", i, b"it with `h8 run` only");
+        fault::wrong(plain, name, i, expected);
     }
     i != 0
 }
 
 // Whether a word or an option is wrong; then a line has said so.
 fn faulty(q: Request, u: Use) -> bool {
-    if unknown(q) {
+    if told(
+        q.plain,
+        b"the option",
+        q.unknown,
+        b"--plain, --ram, --budget, --stop or --er; `h8 help` says more",
+    ) {
         return true;
     }
-    if too_many(q, u) {
+    if told(
+        q.plain,
+        b"a word too many",
+        surplus(q, u),
+        b"what `h8 help` says",
+    ) {
         return true;
     }
-    misplaced(q, u)
-}
-
-fn small(v: u64) -> u32 {
-    (v % 4294967296) as u32
+    told(
+        q.plain,
+        b"the option",
+        astray(q, u),
+        b"it with `h8 run` only",
+    )
 }
 
 fn wide(v: u64) -> usize {
@@ -119,9 +109,9 @@ fn figure(q: Request, rom: &[u8], table: &mut [u64]) {
         return;
     };
     if q.fourth == 0 {
-        figure_of(q.plain, rom, table, small(entry), Gap::NoGap);
+        figure_of(q.plain, rom, table, asked::small(entry), Gap::NoGap);
     } else {
-        figure_in(q, rom, table, small(entry));
+        figure_in(q, rom, table, asked::small(entry));
     }
 }
 
@@ -136,7 +126,7 @@ fn way(q: Request, rom: &[u8], table: &mut [u64]) {
     let Got::Found(entry) = fault::address(q.plain, b"ENTRY", q.third) else {
         return;
     };
-    way_of(q.plain, rom, table, small(entry));
+    way_of(q.plain, rom, table, asked::small(entry));
 }
 
 fn word_or(q: Request, name: &[u8], i: usize, otherwise: u64) -> Got {
@@ -186,13 +176,12 @@ fn list(q: Request, rom: &[u8], table: &mut [u64]) {
 }
 
 fn answer(q: Request, u: Use, rom: &[u8], table: &mut [u64]) {
-    match u {
-        Use::ForFigure => figure(q, rom, table),
-        Use::ForWay => way(q, rom, table),
-        Use::ForList => list(q, rom, table),
-        Use::ForRun => {}
-        Use::ForHelp => {}
-        Use::NoUse => {}
+    if let Use::ForFigure = u {
+        figure(q, rom, table);
+    } else if let Use::ForWay = u {
+        way(q, rom, table);
+    } else {
+        list(q, rom, table);
     }
 }
 
