@@ -156,7 +156,9 @@ uint32_t h8_run(uint32_t base, const uint8_t *rom, size_t rom_n, uint8_t *ram, s
    Looks for: 13 (answer_n below 3: nothing written), 1 (length of `rom` odd or over 524,288), 8, 13 (table_n below rom_n:
    place rom_n); in these cases the table stays. Else the table is filled: for each place p, that is, each even address
    below rom_n, table[p] is its figure, 0 if refused, and table[p+1] is the lowest forbidden place that its paths reach,
-   H8_NONE if none. Numbers from table[rom_n] on stay. Then 2, 3, 4, 9 or 10 at the entry's lowest forbidden place, or 0. */
+   H8_NONE if none. Numbers from table[rom_n] on stay. Then 2, 3, 4, 9 or 10 at the entry's lowest forbidden place, or 0.
+   0: on every board with this `rom`, with any `base` and `ram` and from any registers with PC at `entry`, a run comes to
+   the end of its first RTS, or is refused by 5, 6, 7 or 14, within `figure` states and rom_n / 2 steps. */
 uint32_t h8_figure(const uint8_t *rom, size_t rom_n, uint32_t entry, uint64_t *table, size_t table_n,
                    uint64_t *answer, size_t answer_n);
 

@@ -154,13 +154,10 @@ abbrev pub unsignedDivide : Half → ℕ
 unsignedDivide Eight = 0x51
 unsignedDivide Sixteen = 0x53
 
-abbrev pub multiplyCode : Sign → Half → ℕ → ℕ → List ℕ
-multiplyCode Unsigned h s d = word (unsignedMultiply h) (s · d)
-multiplyCode Signed h s d = 0x01 ∷ 0xC0 ∷ word (unsignedMultiply h) (s · d)
-
-abbrev pub divideCode : Sign → Half → ℕ → ℕ → List ℕ
-divideCode Unsigned h s d = word (unsignedDivide h) (s · d)
-divideCode Signed h s d = 0x01 ∷ 0xD0 ∷ word (unsignedDivide h) (s · d)
+-- the signed instruction's code is the unsigned one's behind 01 and a second byte
+abbrev pub productCode : Sign → ℕ → ℕ → ℕ → ℕ → List ℕ
+productCode Unsigned second first s d = word first (s · d)
+productCode Signed second first s d = 0x01 ∷ second ∷ word first (s · d)
 
 -- "Immediate byte, first digit 8 to F: ADD, ADDX, CMP, SUBX, OR, XOR, AND, MOV. 79 word and 7A long, next digit 0 to 6: MOV, ADD, CMP, SUB, OR,
 -- XOR, AND"
@@ -257,8 +254,8 @@ codeOf (AddsSubs way by e) = addsSubsCode way by e
 codeOf (Decimal way r) = decimalCode way r
 codeOf (Shift turn w r) = shiftCode turn w r
 codeOf (Unary single w r) = unaryCode single w r
-codeOf (Multiply sign h s d) = multiplyCode sign h s d
-codeOf (Divide sign h s d) = divideCode sign h s d
+codeOf (Multiply sign h s d) = productCode sign 0xC0 (unsignedMultiply h) s d
+codeOf (Divide sign h s d) = productCode sign 0xD0 (unsignedDivide h) s d
 codeOf (Alu op w (Imm v) d) = immCode op w v d
 codeOf (Move dir w p r) = moveCode dir w p r
 codeOf (Bcc c reach) = bccCode c reach

@@ -1,6 +1,6 @@
 -- What `way` answers, by a table that `figure` filled.
 -- Assumes nothing.
-use mathlib.Core.Path.{_≡_, _∙_}
+use mathlib.Core.Path.{_≡_, sym, _∙_}
 use mathlib.Core.List.{List}
 use Prim.Native.Nat.{ℕ, _%_, _≤_, _<_}
 use native.Mathlib.Omega.{arith}
@@ -8,17 +8,19 @@ use lib.ListN.{length}
 use borrow.Author.Tests.{eq-eqb, ne-eqb, lt-ltb, le-leb}
 use Rattle.refusal.specs.declared.Refusal.{Refusal}
 use Rattle.codes.specs.Exact.{Bytes}
+use Rattle.paths.specs.declared.WayOn.{WayOn}
 use Rattle.paths.specs.declared.WayOn.the-variants.{NoWay}
-use Rattle.paths.specs.Paths.{IsPlace, Forbidden, Clear, Lowest, figure, refused, RowsFrom}
+use Rattle.paths.specs.Paths.{IsPlace, Forbidden, Clear, Lowest, Row, figure, refused, RowsFrom}
 use Rattle.paths.specs.MirrorRows.{rowOf, onwardOf}
-use Rattle.paths.proofs.Laws.{Listing, row-one, row-clear, meets-in, clear-in}
-use Rattle.paths.proofs.Rows.{row-at, follows}
+use Rattle.paths.proofs.Laws.{Listing, row-one, row-clear, meets-forbidden, meets-in, clear-in}
+use Rattle.paths.proofs.Rows.{row-at, follows, next-on-tie}
+use Rattle.paths.proofs.Ways.{follows-one}
 use Rattle.listing.specs.Listing.{flowAt}
 use Rattle.listing.proofs.Listed.{listing}
 use Rattle.figure.specs.declared.Asked.the-variants.{Fit, Unfit}
 use Rattle.figure.specs.Answer.{askedOf}
 use Rattle.figure.specs.MirrorFigure.{onFrom, wayAsked, wayOf}
-use Rattle.figure.specs.Longest.{WayTold}
+use Rattle.figure.specs.Longest.{ByTable, WayTold}
 use Rattle.figure.proofs.Answered.{Good, fit-good, good-place, why-lowest}
 
 good-fit : {len lent entry : ℕ} → Good len lent entry → askedOf len lent entry ≡ Fit
@@ -52,9 +54,20 @@ module _ (rom : List ℕ) (bytes : Bytes rom) (table : List ℕ) where
         let i : rowOf (length rom) table p .low ≡ f = row-one (flowAt rom) (row-at (flowAt rom) (length rom) L table 0 p R (omega arith) z) (refused w) .1 in
         fit-way p e ∙ simp (i, ne-eqb f 16777215 (omega arith), why-lowest rom h b)
 
-  pub way-told : (place : ℕ) → WayTold rom table place
+  pub way-told : (place : ℕ) → WayTold rom table (wayOf rom table) place
   way-told place = record {
     unfit = λ f e. unfit-way place f e;
-    longest = λ b n c l. let e = b .0 in let R = b .1 in let g = fit-good (length rom) (length table) place e in follows (flowAt rom) (length rom) (L (g .even) (g .small) (g .room) R) table R (wayOf rom table) (clear-way (g .even) (g .small) (g .room) R) place n (good-place g) c l;
-    refused = λ b f r w k. let e = b .0 in let R = b .1 in let g = fit-good (length rom) (length table) place e in refused-way (g .even) (g .small) (g .room) R place f r e (good-place g) w k;
+    longest = λ b n c l. let R = b .1 in let g = fit-good (length rom) (length table) place (b .0) in follows (flowAt rom) (length rom) (L (g .even) (g .small) (g .room) R) table R (wayOf rom table) (clear-way (g .even) (g .small) (g .room) R) place n (good-place g) c l;
+    tie = λ b c. let R = b .1 in let g = fit-good (length rom) (length table) place (b .0) in next-on-tie (flowAt rom) (length rom) (L (g .even) (g .small) (g .room) R) table R (wayOf rom table) (clear-way (g .even) (g .small) (g .room) R) place (good-place g) c;
+    refused = λ b f r w k. let R = b .1 in let g = fit-good (length rom) (length table) place (b .0) in refused-way (g .even) (g .small) (g .room) R place f r (b .0) (good-place g) w k;
   }
+
+-- by a table that `figure` filled, `WayTold` leaves one answer
+pub way-one : {rom table : List ℕ} {next next′ : ℕ → WayOn} {place : ℕ} → ByTable rom table place → WayTold rom table next place → WayTold rom table next′ place
+    → next place ≡ next′ place
+way-one {rom} {table} {next} {next′} {place} b w w′ =
+    let g = fit-good (length rom) (length table) place (b .0) in by-row (b .1 place (omega arith) (g .entry-even) (g .entry-in))
+  where
+    by-row : {n f : ℕ} → Row (flowAt rom) place n f → next place ≡ next′ place
+    by-row (figure c l) = follows-one (flowAt rom) l (w .longest b _ c l) (w′ .longest b _ c l) (w .tie b c) (w′ .tie b c)
+    by-row (refused x) = let y = meets-forbidden (flowAt rom) (x .met) in w .refused b _ (y .0) x (y .1) ∙ sym (w′ .refused b _ (y .0) x (y .1))

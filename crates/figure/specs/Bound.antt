@@ -12,7 +12,7 @@ use Rattle.figure.specs.declared.Verdict.{Verdict}
 use Rattle.figure.specs.declared.Verdict.the-variants.{Longest}
 
 -- where the answer is a figure n: on every good board with that code, from any registers with PC at the entry and any working memory, the run returns
--- or is refused by 5, 6 or 7, within n states and within as many steps as that memory has words
+-- or is refused by 5, 6, 7 or 14, within n states and within as many steps as that memory has words
 abbrev pub RunsKept : List ℕ → ℕ → Verdict → Type 0
 RunsKept rom entry r =
     (n : ℕ) → r ≡ Longest n → (b : Board) (s : State) → goodBoard b (length rom) (length (s .mem)) ≡ true → s .regs .pc ≡ entry

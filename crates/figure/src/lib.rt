@@ -123,7 +123,7 @@ fn on_from(rom: &[u8], table: &[u64], place: u32, r: Reckoned) -> WayOn
 // Where the longest path from a place goes next, by a table that `figure` filled.
 pub fn way(rom: &[u8], table: &[u64], place: u32) -> WayOn
     ensures answer { λ r. ⌜ r ≡ wayOf (now (rom .entry)) (now (table .entry)) place ⌝ }
-    ensures longest { λ r. ⌜ WayTold (now (rom .entry)) (now (table .entry)) place ⌝ }
+    ensures longest { λ r. ⌜ WayTold (now (rom .entry)) (now (table .entry)) (wayOf (now (rom .entry)) (now (table .entry))) place ⌝ }
 {
     let a = look(rom.len(), table.len(), place);
     match a {

@@ -1,19 +1,34 @@
 // What `h8 run` is asked, from its arguments.
 use crate::ask;
+use crate::ask::Request;
 use crate::fault;
 use crate::fault::Got;
 use arith::Width;
+use asking::Kind;
+use lines::Given;
 use registers::Condition;
 use registers::Registers;
 
-// `bad` where a line has said which argument is wrong.
+// A stop address that PC never holds.
+const NEVER: u64 = 16777215;
+
+// `bad` where a line has said which argument is wrong, here and below.
+pub struct Wanted {
+    pub given: Given,
+    pub bad: bool,
+}
+
 pub struct Begun {
     pub regs: Registers,
     pub bad: bool,
 }
 
+pub fn small(v: u64) -> u32 {
+    (v % 4294967296) as u32
+}
+
 // Where an option's value stands: k arguments after its name; 0 is none.
-pub fn after(i: usize, k: usize) -> usize {
+fn after(i: usize, k: usize) -> usize {
     if i == 0 {
         0
     } else {
@@ -22,11 +37,68 @@ pub fn after(i: usize, k: usize) -> usize {
 }
 
 // The value of an option that may be left out.
-pub fn optional(plain: bool, name: &[u8], i: usize, otherwise: u64, expected: &[u8]) -> Got {
+fn optional(plain: bool, name: &[u8], i: usize, otherwise: u64, expected: &[u8]) -> Got {
     if i == 0 {
         return Got::Found(otherwise);
     }
     fault::number(plain, name, after(i, 1), 4294967295, expected)
+}
+
+fn asked_for(entry: u64, base: u64, length: u64, stop: u64, budget: u64) -> Wanted {
+    Wanted {
+        given: Given {
+            entry: small(entry),
+            base: small(base),
+            length: small(length),
+            stop: small(stop),
+            budget: small(budget),
+        },
+        bad: false,
+    }
+}
+
+fn no_numbers() -> Wanted {
+    let mut w = asked_for(0, 0, 0, 0, 0);
+    w.bad = true;
+    w
+}
+
+// The numbers; the stop address and the budget may be left out.
+pub fn numbers(q: Request) -> Wanted {
+    let Got::Found(entry) = fault::address(q.plain, b"ENTRY", q.third) else {
+        return no_numbers();
+    };
+    let Got::Found(base) = fault::address(q.plain, b"BASE of --ram", after(q.ram, 1)) else {
+        return no_numbers();
+    };
+    let Got::Found(length) = fault::number(
+        q.plain,
+        b"LENGTH of --ram",
+        after(q.ram, 2),
+        65536,
+        b"an even number up to 65536",
+    ) else {
+        return no_numbers();
+    };
+    let Got::Found(stop) = optional(
+        q.plain,
+        b"--stop",
+        q.stop,
+        NEVER,
+        b"an address up to 0xffffffff, decimal or 0x",
+    ) else {
+        return no_numbers();
+    };
+    let Got::Found(budget) = optional(
+        q.plain,
+        b"--budget",
+        q.budget,
+        1000000,
+        b"a number of steps up to 1000000",
+    ) else {
+        return no_numbers();
+    };
+    asked_for(entry, base, length, stop, budget)
 }
 
 fn cleared(entry: u32) -> Begun {
@@ -79,14 +151,21 @@ fn er(plain: bool, s: Begun, i: usize) -> Begun {
     with_er(s, n, v)
 }
 
+// What argument i sets.
+fn set_at(plain: bool, s: Begun, k: Kind, i: usize) -> Begun {
+    if let Kind::ErOption = k {
+        er(plain, s, i)
+    } else {
+        s
+    }
+}
+
 // Registers are 0 but for those that --er sets, and PC, which is the entry; all flags are 0.
 pub fn start(plain: bool, count: usize, entry: u32) -> Begun {
     let mut s = cleared(entry);
     let mut i: usize = 1;
     while i < count {
-        if ask::is(i, b"--er") {
-            s = er(plain, s, i);
-        }
+        s = set_at(plain, s, ask::kind_at(i), i);
         i += 1;
     }
     s

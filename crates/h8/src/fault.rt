@@ -1,29 +1,17 @@
 // What is wrong with the arguments, in one line: the argument's name, what it is and what was expected.
 use crate::ask;
-use crate::ask::Number;
+use crate::show;
+use asking::Number;
 
 pub enum Got {
     Found(u64),
     Wrong,
 }
 
-fn start(plain: bool) {
-    if plain {
-        io::write_all(1, b"error ");
-    } else {
-        io::write_all(1, b"error: ");
-    }
-}
-
-// A byte that would end the line or steer the screen is shown as a question mark.
-fn shown(b: u8) -> u8 {
-    if (b < 32) | (b == 127) { b'?' } else { b }
-}
-
 fn write_shown(s: &[u8]) {
     let mut i = 0;
     while i < s.len() {
-        let b = shown(s[i]);
+        let b = asking::shown(s[i]);
         io::write_all(1, &[b]);
         i += 1;
     }
@@ -41,27 +29,18 @@ fn given(i: usize) {
 }
 
 pub fn missing(plain: bool, name: &[u8], expected: &[u8]) {
-    start(plain);
-    io::write_all(1, name);
-    io::write_all(1, b" is missing: expected ");
-    io::write_all(1, expected);
-    io::write_all(1, b"\n");
+    show::write(asking::missing(text::blank(), plain, name, expected));
 }
 
 pub fn wrong(plain: bool, name: &[u8], i: usize, expected: &[u8]) {
-    start(plain);
-    io::write_all(1, name);
-    io::write_all(1, b" is ");
+    show::write(asking::wrong(text::blank(), plain, name, b" is "));
     given(i);
-    io::write_all(1, b": expected ");
-    io::write_all(1, expected);
-    io::write_all(1, b"\n");
+    show::write(asking::expected(text::blank(), expected));
 }
 
 // The ROM's file and what is wrong with it.
 pub fn file(plain: bool, i: usize, what: &[u8]) {
-    start(plain);
-    io::write_all(1, b"ROM ");
+    show::write(asking::wrong(text::blank(), plain, b"ROM", b" "));
     given(i);
     io::write_all(1, what);
 }
@@ -86,9 +65,6 @@ fn no(plain: bool, name: &[u8], expected: &[u8]) -> Got {
 
 // The number at argument i, at most `most`; if it is none, a line says so.
 pub fn number(plain: bool, name: &[u8], i: usize, most: u64, expected: &[u8]) -> Got {
-    if i == 0 {
-        return no(plain, name, expected);
-    }
     match ask::number_at(i) {
         Number::Value(v) => within(plain, name, i, most, expected, v),
         Number::NotNumber => not(plain, name, i, expected),

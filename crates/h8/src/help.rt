@@ -1,80 +1,28 @@
 // What `h8` alone and `h8 help` print.
-fn uses() {
-    io::write_all(
-        1,
-        b"h8: how long a routine of an H8/300H ROM can take, in states; every answer is that of a proved library\n\n",
-    );
-    io::write_all(
-        1,
-        b"  h8 figure ROM ENTRY [GAP]      the longest way from ENTRY to its RTS, in states; whether it fits GAP states\n",
-    );
-    io::write_all(
-        1,
-        b"  h8 way ROM ENTRY               that way, instruction by instruction\n",
-    );
-    io::write_all(
-        1,
-        b"  h8 list ROM [FROM [TO]]        a listing of the places FROM to TO, with the figure of each\n",
-    );
-}
-
-fn more_uses() {
-    io::write_all(
-        1,
-        b"  h8 run ROM ENTRY --ram BASE LENGTH [--budget N] [--stop ADDRESS] [--er N VALUE]...\n",
-    );
-    io::write_all(
-        1,
-        b"                                 runs from ENTRY; prints registers, flags, steps, states and why it ended\n",
-    );
-    io::write_all(1, b"  h8 help                        this text\n\n");
-}
-
-fn terms() {
-    io::write_all(
-        1,
-        b"ROM is a file, its first byte at address 0: an even number of bytes, at most 524288.\n",
-    );
-    io::write_all(
-        1,
-        b"Numbers are decimal or 0x. With --plain an answer is printed as one name and value a line.\n",
-    );
-    io::write_all(
-        1,
-        b"In a listing H'0100 is the maker's way to write 0x0100.\n\n",
-    );
-    io::write_all(
-        1,
-        b"A refusal says why there is no figure: its number, the place, what stands there and what that means.\n",
-    );
-    io::write_all(
-        1,
-        b"The figure counts every path, also one that no data takes; interrupts and seconds are not in it.\n\n",
-    );
-}
-
-fn sample() {
-    io::write_all(
-        1,
-        b"The sample's sheet routine begins at 0x0100; between two sheets there are 160 states:\n\n",
-    );
-    io::write_all(
-        1,
-        b"  ./h8 run samples/sheet.bin 0x100 --ram 0xffef10 4096 --er 7 0xffff0c --stop 0     an ordinary sheet: 110 states\n",
-    );
-    io::write_all(
-        1,
-        b"  ./h8 figure samples/sheet.bin 0x100 160                                           the longest way: 194\n",
-    );
-    io::write_all(
-        1,
-        b"  ./h8 way samples/sheet.bin 0x100                                                  where they go\n",
-    );
-}
-
 pub fn show_help() {
-    uses();
-    more_uses();
-    terms();
-    sample();
+    io::write_all(
+        1,
+        b"h8: how long a routine of an H8/300H ROM can take, in states; every answer is that of a proved library
+
+  h8 figure ROM ENTRY [GAP]      the longest way from ENTRY to its RTS, in states; whether it fits GAP states
+  h8 way ROM ENTRY               that way, instruction by instruction
+  h8 list ROM [FROM [TO]]        a listing of the places FROM to TO, with the figure of each
+  h8 run ROM ENTRY --ram BASE LENGTH [--budget N] [--stop ADDRESS] [--er N VALUE]...
+                                 runs from ENTRY; prints registers, flags, steps, states and why it ended
+  h8 help                        this text
+
+ROM is a file, its first byte at address 0: an even number of bytes, at most 524288.
+Numbers are decimal or 0x. With --plain an answer is printed as one name and value a line.
+In a listing H'0100 is the maker's way to write 0x0100.
+
+A refusal says why there is no figure: its number, the place, what stands there and what that means.
+The figure counts every path, also one that no data takes; interrupts and seconds are not in it.
+
+The sample's sheet routine begins at 0x0100; between two sheets there are 160 states:
+
+  ./h8 run samples/sheet.bin 0x100 --ram 0xffef10 4096 --er 7 0xffff0c --stop 0     an ordinary sheet: 110 states
+  ./h8 figure samples/sheet.bin 0x100 160                                           the longest way: 194
+  ./h8 way samples/sheet.bin 0x100                                                  where they go
+",
+    );
 }

@@ -4,46 +4,16 @@ mod asked;
 mod fault;
 mod file;
 mod help;
+mod places;
 mod runs;
+mod show;
 
 use ask::Request;
+use asking::Use;
 use fault::Got;
+use figure::Verdict;
 use file::Loaded;
-use printing::Gap;
-
-// The uses, by their names.
-enum Use {
-    Figure,
-    Way,
-    List,
-    Run,
-    Help,
-    NoUse,
-}
-
-fn used(q: Request) -> Use {
-    let i = q.first;
-    if i == 0 {
-        return Use::Help;
-    }
-    if ask::is(i, b"help") {
-        return Use::Help;
-    }
-    if ask::is(i, b"figure") {
-        return Use::Figure;
-    }
-    if ask::is(i, b"way") {
-        return Use::Way;
-    }
-    if ask::is(i, b"list") {
-        return Use::List;
-    }
-    if ask::is(i, b"run") {
-        Use::Run
-    } else {
-        Use::NoUse
-    }
-}
+use lines::Gap;
 
 fn either(a: usize, b: usize) -> usize {
     if a != 0 { a } else { b }
@@ -52,11 +22,11 @@ fn either(a: usize, b: usize) -> usize {
 // The first word that a use has no place for.
 fn surplus(q: Request, u: Use) -> usize {
     match u {
-        Use::Figure => q.extra,
-        Use::Way => either(q.fourth, q.extra),
-        Use::List => q.extra,
-        Use::Run => either(q.fourth, q.extra),
-        Use::Help => either(q.second, q.extra),
+        Use::ForFigure => q.extra,
+        Use::ForWay => either(q.fourth, q.extra),
+        Use::ForList => q.extra,
+        Use::ForRun => either(q.fourth, q.extra),
+        Use::ForHelp => either(q.second, q.extra),
         Use::NoUse => 0,
     }
 }
@@ -65,57 +35,47 @@ fn surplus(q: Request, u: Use) -> usize {
 fn astray(q: Request, u: Use) -> usize {
     let i = either(either(q.ram, q.budget), either(q.stop, q.er));
     match u {
-        Use::Figure => i,
-        Use::Way => i,
-        Use::List => i,
-        Use::Run => 0,
-        Use::Help => i,
+        Use::ForFigure => i,
+        Use::ForWay => i,
+        Use::ForList => i,
+        Use::ForRun => 0,
+        Use::ForHelp => i,
         Use::NoUse => 0,
     }
 }
 
-fn unknown(q: Request) -> bool {
-    let i = q.unknown;
+// Whether argument i is wrong; then a line has said so.
+fn told(plain: bool, name: &[u8], i: usize, expected: &[u8]) -> bool {
     if i != 0 {
-        fault::wrong(
-            q.plain,
-            b"the option",
-            i,
-            b"--plain, --ram, --budget, --stop or --er; `h8 help` says more",
-        );
-    }
-    i != 0
-}
-
-fn too_many(q: Request, u: Use) -> bool {
-    let i = surplus(q, u);
-    if i != 0 {
-        fault::wrong(q.plain, b"a word too many", i, b"what `h8 help` says");
-    }
-    i != 0
-}
-
-fn misplaced(q: Request, u: Use) -> bool {
-    let i = astray(q, u);
-    if i != 0 {
-        fault::wrong(q.plain, b"the option", i, b"it with `h8 run` only");
+        fault::wrong(plain, name, i, expected);
     }
     i != 0
 }
 
 // Whether a word or an option is wrong; then a line has said so.
 fn faulty(q: Request, u: Use) -> bool {
-    if unknown(q) {
+    if told(
+        q.plain,
+        b"the option",
+        q.unknown,
+        b"--plain, --ram, --budget, --stop or --er; `h8 help` says more",
+    ) {
         return true;
     }
-    if too_many(q, u) {
+    if told(
+        q.plain,
+        b"a word too many",
+        surplus(q, u),
+        b"what `h8 help` says",
+    ) {
         return true;
     }
-    misplaced(q, u)
-}
-
-fn small(v: u64) -> u32 {
-    (v % 4294967296) as u32
+    told(
+        q.plain,
+        b"the option",
+        astray(q, u),
+        b"it with `h8 run` only",
+    )
 }
 
 fn wide(v: u64) -> usize {
@@ -134,7 +94,7 @@ fn gap(q: Request) -> Got {
 
 fn figure_of(plain: bool, rom: &[u8], table: &mut [u64], entry: u32, gap: Gap) {
     let v = figure::figure(rom, entry, table);
-    printing::figure(rom, v, entry, gap, plain);
+    show::write(lines::figure(text::blank(), rom, v, entry, gap, plain));
 }
 
 fn figure_in(q: Request, rom: &[u8], table: &mut [u64], entry: u32) {
@@ -149,22 +109,24 @@ fn figure(q: Request, rom: &[u8], table: &mut [u64]) {
         return;
     };
     if q.fourth == 0 {
-        figure_of(q.plain, rom, table, small(entry), Gap::NoGap);
+        figure_of(q.plain, rom, table, asked::small(entry), Gap::NoGap);
     } else {
-        figure_in(q, rom, table, small(entry));
+        figure_in(q, rom, table, asked::small(entry));
     }
 }
 
 fn way_of(plain: bool, rom: &[u8], table: &mut [u64], entry: u32) {
-    let v = figure::figure(rom, entry, table);
-    printing::way(rom, &table[..], v, entry, plain);
+    match figure::figure(rom, entry, table) {
+        Verdict::Longest(n) => places::way(rom, &table[..], entry, n, plain),
+        Verdict::Forbids(f) => show::write(lines::refused(text::blank(), rom, f, plain)),
+    }
 }
 
 fn way(q: Request, rom: &[u8], table: &mut [u64]) {
     let Got::Found(entry) = fault::address(q.plain, b"ENTRY", q.third) else {
         return;
     };
-    way_of(q.plain, rom, table, small(entry));
+    way_of(q.plain, rom, table, asked::small(entry));
 }
 
 fn word_or(q: Request, name: &[u8], i: usize, otherwise: u64) -> Got {
@@ -176,7 +138,7 @@ fn word_or(q: Request, name: &[u8], i: usize, otherwise: u64) -> Got {
 
 fn list_of(plain: bool, rom: &[u8], table: &mut [u64], from: usize, to: usize) {
     figure::figure(rom, 0, table);
-    printing::list(rom, &table[..], from, to, plain);
+    places::list(rom, &table[..], from, to, plain);
 }
 
 // Whether the first place can't be listed; then a line has said so.
@@ -214,13 +176,12 @@ fn list(q: Request, rom: &[u8], table: &mut [u64]) {
 }
 
 fn answer(q: Request, u: Use, rom: &[u8], table: &mut [u64]) {
-    match u {
-        Use::Figure => figure(q, rom, table),
-        Use::Way => way(q, rom, table),
-        Use::List => list(q, rom, table),
-        Use::Run => {}
-        Use::Help => {}
-        Use::NoUse => {}
+    if let Use::ForFigure = u {
+        figure(q, rom, table);
+    } else if let Use::ForWay = u {
+        way(q, rom, table);
+    } else {
+        list(q, rom, table);
     }
 }
 
@@ -265,27 +226,22 @@ fn run_room(q: Request) {
     run_arrays(q, &mut rom, &mut ram);
 }
 
-// As other programs ask for it.
-fn asks_help() -> bool {
-    ask::is(1, b"--help") | ask::is(1, b"-h")
-}
-
 fn main() {
-    if asks_help() {
+    if ask::asks_help() {
         help::show_help();
         return;
     }
     let q = ask::requested();
-    let u = used(q);
+    let u = ask::use_at(q.first);
     if faulty(q, u) {
         return;
     }
     match u {
-        Use::Figure => with_room(q, u),
-        Use::Way => with_room(q, u),
-        Use::List => with_room(q, u),
-        Use::Run => run_room(q),
-        Use::Help => help::show_help(),
+        Use::ForFigure => with_room(q, u),
+        Use::ForWay => with_room(q, u),
+        Use::ForList => with_room(q, u),
+        Use::ForRun => run_room(q),
+        Use::ForHelp => help::show_help(),
         Use::NoUse => fault::wrong(
             q.plain,
             b"the use",

@@ -50,7 +50,7 @@ module _ (fields : List ℕ) where
   spelled h = spelled-by (ltb (length fields) 9) refl h
 
   -- fields that spell a valid instruction name it
-  spells-names : {i : Instruction} → Spells fields i → namedIn fields ≡ Names i
+  pub spells-names : {i : Instruction} → Spells fields i → namedIn fields ≡ Names i
   unfolding namedIn
   spells-names {i} s =
       rw (le-ltb (length fields) 9 (s .whole))

@@ -1,3 +1,5 @@
 mod Told
 mod Coded
 mod Stepped
+mod Figured
+mod One

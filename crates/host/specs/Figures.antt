@@ -1,13 +1,19 @@
 -- host/h8.h, h8_figure and h8_way: what they return and leave in the lent arrays.
 use Prim.Native.Nat.{ℕ, _≤_, _<_}
+use mathlib.Core.Path.{_≡_}
+use mathlib.Core.Logic.{_↔_}
 use mathlib.Core.Bool.{cond}
 use mathlib.Core.List.{List, [], _∷_}
 use lib.Dec.{ltb}
-use lib.ListN.{length}
-use Rattle.figure.specs.Answer.{Figured}
+use lib.ListN.{length, getD}
+use Rattle.figure.specs.Answer.{askedOf, Figured}
+use Rattle.figure.specs.Bound.{RunsKept}
 use Rattle.figure.specs.MirrorFigure.{wayOf}
+use Rattle.figure.specs.declared.Asked.the-variants.{Fit}
 use Rattle.figure.specs.declared.Verdict.{Verdict}
 use Rattle.figure.specs.declared.Verdict.the-variants.{Longest, Forbids}
+use Rattle.listing.specs.Listing.{flowAt}
+use Rattle.paths.specs.Paths.{Meets}
 use Rattle.paths.specs.declared.WayOn.{WayOn}
 use Rattle.paths.specs.declared.WayOn.the-variants.{On, Home, NoWay}
 use Rattle.host.specs.Answers.{Noted, noted, tell, refuse}
@@ -36,6 +42,16 @@ pub data FigureCall (rom : List ℕ) (entry : ℕ) (table answer : List ℕ) : F
   answer-short : length answer < 3 → FigureCall rom entry table answer (figuring 13 table answer)
   figured : {v : Verdict} {after : List ℕ} → 3 ≤ length answer → Figured rom entry table v after
       → FigureCall rom entry table answer (withTable after (figureTold v answer))
+
+-- with room for the answer, and the memory, the entry and the table fit, a refusal is returned exactly when a path meets a forbidden place
+abbrev pub FigureExactly : List ℕ → ℕ → List ℕ → List ℕ → ℕ → Type 0
+FigureExactly rom entry table answer returned =
+    3 ≤ length answer → askedOf (length rom) (length table) entry ≡ Fit
+    → (returned ≡ 0 → ⊥) ↔ ((f : ℕ) × Meets (flowAt rom) entry f)
+
+-- demand 3: where 0 is returned, every run on every good board with that code keeps to answer[2]
+abbrev pub FigureKept : List ℕ → ℕ → ℕ → List ℕ → Type 0
+FigureKept rom entry returned answer = returned ≡ 0 → RunsKept rom entry (Longest (getD answer 2 0))
 
 -- ---- h8_way
 

@@ -16,7 +16,7 @@ use Rattle.paths.specs.declared.Flow.{Flow}
 use Rattle.paths.specs.declared.Flow.the-variants.{Next, Jump, Either, Ends, Stop}
 use Rattle.paths.specs.declared.WayOn.{WayOn}
 use Rattle.paths.specs.declared.WayOn.the-variants.{On}
-use Rattle.paths.specs.Paths.{IsPlace, Leads, countOf, Forbidden, stop, back, Open, Path, ends, goes, Largest, Clear, Row, RowsFrom, Follows, home, on}
+use Rattle.paths.specs.Paths.{IsPlace, Leads, countOf, Forbidden, stop, back, Open, Path, ends, goes, Largest, Clear, Row, RowsFrom, Follows, home, on, NextOnTie}
 use Rattle.paths.specs.MirrorRows.{rowOf, joined, upwardOf, reckonedOf, whyOf, betterOf, onwardOf}
 use Rattle.paths.proofs.Laws.{le-or, Both, both-next, both-jump, both-either, Listing, up, no-way-stop, row-stop, row-ends, row-join, meets-in, row-outside, row-small, clear-open, clear-on, clear-in, largest-one, largest-join, row-clear}
 
@@ -121,6 +121,17 @@ module _ (flow : ℕ → Flow) (len : ℕ) (L : Listing flow len) (table : List 
 
     pub follows : (p total : ℕ) → IsPlace p → Clear flow p → Largest flow p total → Follows flow next p total
     follows p total z c l = follows-in len p total (omega arith) z c l
+
+    -- and where both ways have the same figure it goes on at the next instruction
+    pub next-on-tie : (p : ℕ) → IsPlace p → Clear flow p → NextOnTie flow p (next p)
+    unfolding onwardOf betterOf
+    next-on-tie p z c n t s m e l k =
+        let first = side n (rw e (inl refl)) l in
+        let second = side t (rw e (inr refl)) k in
+        same p z c ∙ rw (e, le-ltb (rowOf len table n .figure) (rowOf len table t .figure) (omega arith))
+      where
+        side : (q : ℕ) → Leads (flow p) q → Largest flow q m → rowOf len table q .figure ≡ m
+        side q w x = largest-one flow (largest-at q (L .ways p q z w) (clear-on flow len L c w)) x
 
 -- what is followed is a path
 pub follows-path : {flow : ℕ → Flow} {next : ℕ → WayOn} {p n : ℕ} → Follows flow next p n → Path flow p n

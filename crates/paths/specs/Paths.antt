@@ -79,3 +79,7 @@ RowsFrom flow len table i = (p : ℕ) → i ≤ p → p % 2 ≡ 0 → p < len �
 pub data Follows (flow : ℕ → Flow) (next : ℕ → WayOn) : ℕ → ℕ → Type 0 where
   home : {p n : ℕ} → next p ≡ Home → flow p ≡ Ends n → Follows flow next p n
   on : {p q n : ℕ} → next p ≡ On q → Open flow p → Leads (flow p) q → Follows flow next q n → Follows flow next p (countOf (flow p) + n)
+
+-- on a tie, where next instruction and target have the same largest total, `way` goes on at the next instruction
+abbrev pub NextOnTie : (ℕ → Flow) → ℕ → WayOn → Type 0
+NextOnTie flow p way = (n t s m : ℕ) → flow p ≡ Either n t s → Largest flow n m → Largest flow t m → way ≡ On n

@@ -56,14 +56,14 @@ impl Condition {
     pub fn byte(self) -> u8
         ensures { λ r. ⌜ r ≡ byteOf self ⌝ }
     {
-        let b = 0x80 * arith::number(self.i)
-            + 0x40 * arith::number(self.ui)
-            + 0x20 * arith::number(self.h)
-            + 0x10 * arith::number(self.u)
-            + 0x08 * arith::number(self.n)
-            + 0x04 * arith::number(self.z)
-            + 0x02 * arith::number(self.v)
-            + 0x01 * arith::number(self.c);
+        let b = Condition::I as u64 * arith::number(self.i)
+            + Condition::UI as u64 * arith::number(self.ui)
+            + Condition::H as u64 * arith::number(self.h)
+            + Condition::U as u64 * arith::number(self.u)
+            + Condition::N as u64 * arith::number(self.n)
+            + Condition::Z as u64 * arith::number(self.z)
+            + Condition::V as u64 * arith::number(self.v)
+            + Condition::C as u64 * arith::number(self.c);
         b as u8
     }
 

@@ -29,8 +29,8 @@ loop-holds : tie.Need-loop-holds Inv-loop μ-loop
 loop-holds c = search needs
 
 -- src/ask.rt:177:13
-kind-of-requires : tie.Need-kind-of-requires Inv-loop μ-loop
-kind-of-requires c κs = search needs
+kind-at-requires : tie.Need-kind-at-requires Inv-loop μ-loop
+kind-at-requires c κs = search needs
 
 -- src/ask.rt:178:9
 noted-requires : tie.Need-noted-requires Inv-loop μ-loop
@@ -70,7 +70,7 @@ requested-spec =
     counted-requires
     none-requires
     loop-holds
-    kind-of-requires
+    kind-at-requires
     noted-requires
     width-requires
     add-i

@@ -7,10 +7,10 @@ use Rattle.h8.proofs.asked.start.Statement.{statement}
 use Rattle.h8.proofs.asked.start.Tie as tie
 
 abbrev Inv-loop : tie.InvT-loop
-Inv-loop plain count entry s₀ i₀ t s i = Unit {0}
+Inv-loop plain count entry s₀ i₀ s i = Unit {0}
 
 abbrev μ-loop : tie.MeasureT-loop
-μ-loop plain count entry s₀ i₀ t s i = count - i
+μ-loop plain count entry s₀ i₀ s i = count - i
 
 -- src/asked.rt:79:9
 cleared-requires : tie.Need-cleared-requires Inv-loop μ-loop
@@ -20,17 +20,13 @@ cleared-requires c κs = search needs
 loop-holds : tie.Need-loop-holds Inv-loop μ-loop
 loop-holds c = search needs
 
--- src/asked.rt:83:23
-slice-aggregate-is : tie.Need-slice-aggregate-is Inv-loop μ-loop
-slice-aggregate-is c = search needs
-
 -- src/asked.rt:83:12
-is-requires : tie.Need-is-requires Inv-loop μ-loop
-is-requires c κs = search needs
+kind-at-requires : tie.Need-kind-at-requires Inv-loop μ-loop
+kind-at-requires c κs = search needs
 
 -- src/asked.rt:84:13
-er-requires : tie.Need-er-requires Inv-loop μ-loop
-er-requires c κs = search needs
+set-at-requires : tie.Need-set-at-requires Inv-loop μ-loop
+set-at-requires c κs = search needs
 
 -- src/asked.rt:86:9
 add-i : tie.Need-add-i Inv-loop μ-loop
@@ -56,9 +52,8 @@ start-spec =
     μ-loop
     cleared-requires
     loop-holds
-    slice-aggregate-is
-    is-requires
-    er-requires
+    kind-at-requires
+    set-at-requires
     add-i
     loop-less
     loop-again

@@ -1,0 +1,61 @@
+-- Each contract of host/h8.h leaves one answer: what two calls with the same input return, and leave in the lent arrays, is the same.
+use mathlib.Core.Path.{_≡_, refl, sym, ap, subst, _∙_}
+use mathlib.Core.List.{List}
+use Prim.Native.Nat.{ℕ}
+use native.Mathlib.Omega.{arith}
+use Rattle.codes.specs.Exact.{Encodes}
+use Rattle.decoder.proofs.Laws.{decodes-one}
+use Rattle.encoder.proofs.Laws.{encodes-one}
+use Rattle.layout.specs.Names.{Instruction}
+use Rattle.figure.proofs.Answered.{figured-one}
+use Rattle.host.specs.Codes.{decodeLeft, DecodeCall, fields-short, decoded, Spells, EncodeCall, answer-short, unspelt, encoded}
+use Rattle.host.specs.Steps.{stepCall, runCall}
+use Rattle.host.specs.Figures as figures
+use Rattle.host.specs.Figures.{FigureCall, figured, wayCall}
+use Rattle.host.proofs.Coded.{spells-names}
+
+-- a promise of an answer leaves one
+abbrev pub One : {A : Type 0} → (A → Type 0) → Type 0
+One {A} P = (x y : A) → P x → P y → x ≡ y
+
+-- a promise that is an equation
+equal : {A : Type 0} (z : A) → One (λ (x : A). x ≡ z)
+equal z x y p q = p ∙ sym q
+
+pub decode-one : (bytes fields : List ℕ) → One (DecodeCall bytes fields)
+decode-one bytes fields x y (fields-short h) (fields-short k) = refl
+decode-one bytes fields x y (fields-short h) (decoded k d) = absurd (omega arith)
+decode-one bytes fields x y (decoded h d) (fields-short k) = absurd (omega arith)
+decode-one bytes fields x y (decoded h d) (decoded k e) = ap (decodeLeft fields) (decodes-one d e)
+
+spells-one : {fields : List ℕ} {i j : Instruction} → Spells fields i → Spells fields j → i ≡ j
+spells-one {fields} s t = cc (spells-names fields s, spells-names fields t)
+
+pub encode-one : (fields out answer : List ℕ) → One (EncodeCall fields out answer)
+encode-one fields out answer x y (answer-short h) (answer-short k) = refl
+encode-one fields out answer x y (answer-short h) (unspelt k n) = absurd (omega arith)
+encode-one fields out answer x y (answer-short h) (encoded k s e) = absurd (omega arith)
+encode-one fields out answer x y (unspelt h n) (answer-short k) = absurd (omega arith)
+encode-one fields out answer x y (unspelt h n) (unspelt k m) = refl
+encode-one fields out answer x y (unspelt h n) (encoded {i} k s e) = absurd (n i s)
+encode-one fields out answer x y (encoded h s e) (answer-short k) = absurd (omega arith)
+encode-one fields out answer x y (encoded {i} h s e) (unspelt k n) = absurd (n i s)
+encode-one fields out answer x y (encoded h s e) (encoded {new = new} {e = r} k t f) =
+    let b = encodes-one e (subst (λ (i : Instruction). Encodes i out new r) (spells-one t s) f) in
+    cc (b .0, b .1)
+
+pub step-one : (base : ℕ) (rom ram regs answer : List ℕ) → One (λ x. x ≡ stepCall base rom ram regs answer)
+step-one base rom ram regs answer = equal (stepCall base rom ram regs answer)
+
+pub run-one : (base : ℕ) (rom ram regs : List ℕ) (stop budget : ℕ) (answer : List ℕ) → One (λ x. x ≡ runCall base rom ram regs stop budget answer)
+run-one base rom ram regs stop budget answer = equal (runCall base rom ram regs stop budget answer)
+
+pub figure-one : (rom : List ℕ) (entry : ℕ) (table answer : List ℕ) → One (FigureCall rom entry table answer)
+figure-one rom entry table answer x y (figures.answer-short h) (figures.answer-short k) = refl
+figure-one rom entry table answer x y (figures.answer-short h) (figured k f) = absurd (omega arith)
+figure-one rom entry table answer x y (figured h f) (figures.answer-short k) = absurd (omega arith)
+figure-one rom entry table answer x y (figured h f) (figured k g) = let b = figured-one f g in cc (b .0, b .1)
+
+-- (that the way is the one that its promise in words leaves is `way-one` of `figure`)
+pub way-one : (rom table : List ℕ) (place : ℕ) (answer : List ℕ) → One (λ x. x ≡ wayCall rom table place answer)
+way-one rom table place answer = equal (wayCall rom table place answer)

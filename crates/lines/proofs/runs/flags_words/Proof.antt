@@ -1,0 +1,13 @@
+use Rattle.text.proofs.Adding.{more}
+use borrow.Author.Needs.{needs}
+use Rattle.lines.proofs.runs.flags_words.Statement.{statement}
+use Rattle.lines.proofs.runs.flags_words.Tie as tie
+
+pub flags-words-spec : {M : Type 1} → statement M
+flags-words-spec =
+    tie.close
+    (tie.spec (λ c. search needs) (λ c κs. search needs) (λ c. search needs) (λ c κs. search needs)
+    (λ c. search needs) (λ c κs. search needs) (λ c. search needs) (λ c κs. search needs) (λ c. search needs)
+    (λ c κs. search needs) (λ c. search needs) (λ c κs. search needs) (λ c. search needs) (λ c κs. search needs)
+    (λ c. search needs) (λ c κs. search needs)
+    (λ c. more (c .before .before .before .before .before .before .before .before .before .before .before .before .before .before .flag .ensures) (more (c .before .before .before .before .before .before .before .before .before .before .before .before .flag2 .ensures) (more (c .before .before .before .before .before .before .before .before .before .before .flag3 .ensures) (more (c .before .before .before .before .before .before .before .before .flag4 .ensures) (more (c .before .before .before .before .before .before .flag5 .ensures) (more (c .before .before .before .before .flag6 .ensures) (more (c .before .before .flag7 .ensures) (c .flag8 .ensures)))))))))

@@ -1,0 +1,11 @@
+use Rattle.text.proofs.Adding.{more}
+use borrow.Author.Needs.{needs}
+use Rattle.lines.proofs.runs.told_plain.Statement.{statement}
+use Rattle.lines.proofs.runs.told_plain.Tie as tie
+
+pub told-plain-spec : {M : Type 1} → statement M
+told-plain-spec =
+    tie.close
+    (tie.spec (λ c. search needs) (λ c. search needs) (λ c κs. search needs) (λ c. search needs)
+    (λ c κs. search needs) (λ c κs. search needs)
+    (λ c. more (c .before .before .before .number .ensures) (more (c .before .number2 .ensures) (c .why-plain .ensures))))

@@ -1,0 +1,4 @@
+pub mod Parts
+pub mod Figures
+pub mod Places
+pub mod Runs
