@@ -1,0 +1,1 @@
+// An instruction as one number.
