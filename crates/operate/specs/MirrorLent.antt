@@ -1,0 +1,21 @@
+-- An operation done where the registers lie. Nothing here is to be believed: each says that the registers put together are those of the operation's definition.
+use Prim.Native.Nat.{ℕ}
+use mathlib.Core.Path.{_≡_}
+use mathlib.Core.List.{List}
+use Rattle.registers.specs.declared.Condition.{Condition}
+use Rattle.registers.specs.declared.Registers.{Registers}
+use Rattle.registers.specs.Lent.{lent}
+use Rattle.refusal.specs.declared.Outcome.{Outcome}
+use Rattle.operate.specs.declared.Deed.{Deed}
+use Rattle.operate.specs.Results.{Effect}
+
+-- er and f became er′ and f′ as g says, whatever PC is
+abbrev pub Does : (Registers → Registers) → List ℕ → List ℕ → Condition → Condition → Type 0
+Does g er er′ f f′ = (pc : ℕ) → lent er′ pc f′ ≡ g (lent er pc f)
+
+abbrev pub deed : Condition → Outcome → Deed
+deed f o = record { condition = f; outcome = o }
+
+-- the effect that lies in the registers after a deed; so a refused one has written nothing
+abbrev pub effectIn : List ℕ → ℕ → Deed → Effect
+effectIn er pc e = record { regs = lent er pc (e .condition); outcome = e .outcome }
