@@ -8,6 +8,7 @@ ghost use mathlib.Core.Path.{_≡_};
 ghost use Prim.Native.Nat.{_/_, _*_, _%_};
 ghost use Rattle.registers.specs.Condition.{conditionOf, byteOf, withSum, withExtended, withCounted, withShifted, withMoved, withAdjusted, withProduct};
 ghost use Rattle.registers.specs.Parts.{Below, belowOf, partOf, insertOf, withPart, withCondition, pcOf, withPc};
+ghost use Rattle.registers.specs.Lent.{partIn, putIn};
 
 // The condition byte as its eight bits: each change of flags is then a record, and "the others stay" can be seen.
 pub struct Condition {
@@ -218,6 +219,25 @@ pub fn insert(w: Width, d: u8, old: u32, x: u32) -> u32
         },
         Width::Long => x,
     }
+}
+
+// The part of digit d, where the registers lie.
+pub fn get(w: Width, er: &[u32; 8], d: u8) -> u32
+    ensures { λ q. ⌜ q ≡ partIn w (now (er .entry)) d ⌝ }
+{
+    let k = (d % 8) as usize;
+    let x = er[k];
+    let p = below(w, d);
+    arith::low_bits(w, x / p)
+}
+
+// The part of digit d becomes the low bits of x, where the registers lie.
+pub fn put(w: Width, er: &mut [u32; 8], d: u8, x: u32)
+    ensures { λ _. ⌜ now (er .exit) ≡ putIn w (now (er .entry)) d x ⌝ }
+{
+    let k = (d % 8) as usize;
+    let old = er[k];
+    er[k] = insert(w, d, old, x);
 }
 
 // The registers with the part of digit d replaced by the low bits of x.
