@@ -29,11 +29,6 @@ pub use Rattle.codes.specs.declared.Target.{Target}
 pub use Rattle.codes.specs.declared.Target.the-variants.{ByReg, Direct, Vector}
 pub use Rattle.codes.specs.declared.Instruction.{Instruction}
 pub use Rattle.codes.specs.declared.Instruction.the-variants.{Nop, Stc, LdcReg, Ccr, Alu, IncDec, AddsSubs, Decimal, Shift, Unary, Multiply, Divide, Move, Bcc, Jmp, Bsr, Jsr, Rts}
-pub use Rattle.codes.specs.declared.Goes.{Goes}
-pub use Rattle.codes.specs.declared.Goes.the-variants.{Onward, Branches, Jumps, CallsNear, Calls, Returns}
 pub use Rattle.codes.specs.declared.Decoded.{Decoded}
 pub use Rattle.codes.specs.declared.Decoded.the-variants.{Code, NoCode}
-pub use Rattle.codes.specs.declared.Encoded.{Encoded}
-pub use Rattle.codes.specs.declared.Encoded.the-variants.{Written, NotWritten}
-pub use Rattle.refusal.specs.declared.Refusal.{Refusal}
-pub use Rattle.refusal.specs.declared.Refusal.the-variants.{UnknownCode, CutShort, NotInstruction, LentTooShort}
+pub use Rattle.refusal.specs.declared.Refusal.the-variants.{UnknownCode, CutShort}
