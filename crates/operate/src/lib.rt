@@ -215,6 +215,7 @@ pub fn rotr(w: Width, er: &mut [u32; 8], d: u8, f: Condition) -> Condition
     f.with_shifted(x)
 }
 
+// NOT, NEG, EXTU and EXTS.
 pub fn not(w: Width, er: &mut [u32; 8], d: u8, f: Condition) -> Condition
     ensures { λ g. ⌜ Does (unaryOf Not w d) (now (er .entry)) (now (er .exit)) f g ⌝ }
 {
@@ -247,6 +248,7 @@ pub fn exts(w: Width, er: &mut [u32; 8], d: u8, f: Condition) -> Condition
     f.with_moved(x)
 }
 
+// STC: no flag changes.
 pub fn stc(er: &mut [u32; 8], d: u8, f: Condition) -> Condition
     ensures { λ g. ⌜ Does (stcOf d) (now (er .entry)) (now (er .exit)) f g ⌝ }
 {
@@ -261,6 +263,7 @@ fn condition(x: u32) -> Condition
     Condition::from_byte((x % 256) as u8)
 }
 
+// LDC from a byte register: all eight bits.
 pub fn ldc_reg(er: &[u32; 8], s: u8) -> Condition
     ensures { λ g. ⌜ Replaces (ldcOf s) (now (er .entry)) g ⌝ }
 {
@@ -306,6 +309,7 @@ fn adjusted(a: Adjust, x: u32, er: &mut [u32; 8], d: u8, pc: u32, f: Condition) 
     }
 }
 
+// DAA and DAS.
 pub fn daa(er: &mut [u32; 8], d: u8, pc: u32, f: Condition) -> Deed
     ensures { λ e. ⌜ effectIn (now (er .exit)) pc e ≡ decimalOf Up d (lent (now (er .entry)) pc f) ⌝ }
 {

@@ -9,9 +9,5 @@ pub imm-word-spec : {M : Type 1} → statement M
 unfolding immWord
 imm-word-spec =
     tie.close
-    (tie.spec (λ c. search needs)
-    (λ c. search needs)
-    (λ c κs. search needs)
-    (λ c κs. search needs)
-    (λ c κs. search needs)
+    (tie.spec (λ c. search needs) (λ c. search needs) (λ c κs. search needs) (λ c κs. search needs) (λ c κs. search needs)
     (λ c. λ b rom ram. simp (c .done .ensures, c .before .next .ensures) (imm-obeys _ _ _ _ _ Word _ _ (c .before .before .imm-word-op .ensures) 4 _ b rom ram)))

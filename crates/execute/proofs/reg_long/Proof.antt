@@ -7,8 +7,5 @@ pub reg-long-spec : {M : Type 1} → statement M
 unfolding regLong
 reg-long-spec =
     tie.close
-    (tie.spec (λ c. search needs)
-    (λ c κs. search needs)
-    (λ c. search needs)
-    (λ c κs. search needs)
+    (tie.spec (λ c. search needs) (λ c κs. search needs) (λ c. search needs) (λ c κs. search needs)
     (λ c. c .reg-long-op .ensures _ (c .before .before .get .ensures)))

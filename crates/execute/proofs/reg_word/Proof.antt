@@ -9,10 +9,6 @@ pub reg-word-spec : {M : Type 1} → statement M
 unfolding regShort
 reg-word-spec =
     tie.close
-    (tie.spec (λ c. search needs)
-    (λ c κs. search needs)
-    (λ c. search needs)
-    (λ c κs. search needs)
-    (λ c κs. search needs)
+    (tie.spec (λ c. search needs) (λ c κs. search needs) (λ c. search needs) (λ c κs. search needs) (λ c κs. search needs)
     (λ c κs. search needs)
     (λ c. λ b rom ram. simp (c .done .ensures, c .before .next .ensures) (reg-obeys _ _ _ _ _ Word _ _ (λ pc. rw (c .before .before .before .before .get .ensures) at (c .before .before .reg-word-op .ensures pc)) 2 _ b rom ram)))

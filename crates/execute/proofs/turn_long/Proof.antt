@@ -12,20 +12,9 @@ pub turn-long-spec : {M : Type 1} → statement M
 unfolding longTurns
 turn-long-spec =
     tie.close
-    (tie.spec (λ c κs. search needs)
-    (λ c κs. search needs)
-    (λ c κs. search needs)
-    (λ c κs. search needs)
-    (λ c κs. search needs)
-    (λ c κs. search needs)
-    (λ c κs. search needs)
-    (λ c κs. search needs)
-    (λ c κs. search needs)
-    (λ c κs. search needs)
-    (λ c κs. search needs)
-    (λ c κs. search needs)
-    (λ c κs. search needs)
-    (λ c κs. search needs)
+    (tie.spec (λ c κs. search needs) (λ c κs. search needs) (λ c κs. search needs) (λ c κs. search needs) (λ c κs. search needs)
+    (λ c κs. search needs) (λ c κs. search needs) (λ c κs. search needs) (λ c κs. search needs) (λ c κs. search needs)
+    (λ c κs. search needs) (λ c κs. search needs) (λ c κs. search needs) (λ c κs. search needs)
     (λ c. λ m pc b rom ram. simp (c .before .before .match .keys1) (shift-obeys _ _ _ _ Shll Long _ (c .shll .ensures) m pc b rom ram))
     (λ c. λ m pc b rom ram. simp (c .before .before .match .keys2) (shift-obeys _ _ _ _ Shlr Long _ (c .shlr .ensures) m pc b rom ram))
     (λ c. λ m pc b rom ram. simp (c .before .before .match .keys3) (shift-obeys _ _ _ _ Rotxl Long _ (c .rotxl .ensures) m pc b rom ram))

@@ -7,8 +7,5 @@ pub turned-long-spec : {M : Type 1} → statement M
 unfolding turnedLong
 turned-long-spec =
     tie.close
-    (tie.spec (λ c. search needs)
-    (λ c κs. search needs)
-    (λ c κs. search needs)
-    (λ c κs. search needs)
+    (tie.spec (λ c. search needs) (λ c κs. search needs) (λ c κs. search needs) (λ c κs. search needs)
     (λ c. λ b rom ram. simp (c .done .ensures, c .before .next .ensures) (c .before .before .turn-long .ensures 2 _ b rom ram)))

@@ -8,11 +8,6 @@ pub mulxs-spec : {M : Type 1} → statement M
 unfolding multiplyOf putOf partOf withPart
 mulxs-spec =
     tie.close
-    (tie.spec (λ c κs. search needs)
-    (λ c κs. search needs)
-    (λ c κs. search needs)
-    (λ c κs. search needs)
-    (λ c κs. search needs)
-    (λ c κs. search needs)
-    (λ c κs. search needs)
+    (tie.spec (λ c κs. search needs) (λ c κs. search needs) (λ c κs. search needs) (λ c κs. search needs) (λ c κs. search needs)
+    (λ c κs. search needs) (λ c κs. search needs)
     (λ c. λ pc. simp (c .with-product .ensures, c .before .put .ensures, c .before .before .before .mulxs .ensures, c .before .before .before .before .get2 .ensures, c .before .before .before .before .before .before .factor-width .ensures, c .before .before .before .before .before .before .before .get .ensures, c .before .before .before .before .before .before .before .before .before .product-width .ensures)))
