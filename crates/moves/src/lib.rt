@@ -85,15 +85,7 @@ fn kept(p: Put, f: Condition, g: Condition) -> Deed
 }
 
 // MOV to the address a.
-pub fn store(
-    w: Width,
-    a: u32,
-    s: u8,
-    er: &[u32; 8],
-    f: Condition,
-    b: Board,
-    ram: &mut [u8],
-) -> Deed
+pub fn store(w: Width, a: u32, s: u8, er: &[u32; 8], f: Condition, b: Board, ram: &mut [u8]) -> Deed
     ensures { λ e. ⌜ LeavesBoth (λ (r : Registers). storeOf w (Abs24 a) s r b (now (ram .entry))) (now (er .entry)) (now (er .entry)) f e (now (ram .exit)) ⌝ }
 {
     let x = registers::get(w, er, s);

@@ -8,4 +8,4 @@ call-spec =
     tie.close
     (tie.spec (λ c κs. search needs) (λ c κs. search needs) (λ c κs. search needs) (λ c κs. search needs) (λ c κs. search needs)
     (λ c. search needs)
-    (λ c. λ pc. next-pushed _ _ _ _ _ pc _ _ _ _ _ _ _ _ (c .before .before .before .before .before .before .before .before .before .before .register .ensures) (c .before .before .before .before .before .before .before .before .lower .ensures pc) (c .before .before .before .before .before .get .ensures) (c .before .before .before .before .write .ensures) (c .restored .ensures pc)))
+    (λ c. λ pc. next-pushed _ _ _ _ _ pc _ _ _ _ _ _ _ _ (c .before .before .before .before .before .before .before .before .before .before .register .ensures) (c .before .before .before .before .before .before .before .before .lower .ensures pc) (c .before .before .before .before .before .before .get .ensures) (c .before .before .before .before .write .ensures) (c .restored .ensures pc)))

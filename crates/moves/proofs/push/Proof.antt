@@ -9,4 +9,4 @@ push-spec =
     tie.close
     (tie.spec (λ c κs. search needs) (λ c κs. search needs) (λ c κs. search needs) (λ c κs. search needs) (λ c κs. search needs)
     (λ c κs. search needs) (λ c κs. search needs) (λ c κs. search needs) (λ c. search needs)
-    (λ c. λ pc. let a = c .before .before .before .before .before .before .before .before .before .before .before .before .before .before .before .before .before .args in part-pushed _ _ _ _ _ pc _ _ _ (a .f) _ _ _ _ (a .w) (a .e) (a .s) (c .before .before .before .before .before .before .before .before .before .before .before .before .before .before .register .ensures) (rw (c .before .before .before .before .before .before .before .before .before .before .before .before .bytes .ensures) at (c .before .before .before .before .before .before .before .before .before .before .before .lower .ensures pc)) (c .before .before .before .before .before .before .before .before .before .get .ensures) (c .before .before .before .before .before .before .get2 .ensures) (c .before .before .before .before .before .write .ensures) (rw (c .before .flagged .ensures) at (c .restored .ensures pc))))
+    (λ c. λ pc. let a = c .before .before .before .before .before .before .before .before .before .before .before .before .before .before .before .before .before .args in part-pushed _ _ _ _ _ pc _ _ _ (a .f) _ _ _ _ (a .w) (a .e) (a .s) (c .before .before .before .before .before .before .before .before .before .before .before .before .before .before .register .ensures) (rw (c .before .before .before .before .before .before .before .before .before .before .before .before .bytes .ensures) at (c .before .before .before .before .before .before .before .before .before .before .before .lower .ensures pc)) (c .before .before .before .before .before .before .before .before .before .get .ensures) (c .before .before .before .before .before .before .before .get2 .ensures) (c .before .before .before .before .before .write .ensures) (rw (c .before .flagged .ensures) at (c .restored .ensures pc))))
