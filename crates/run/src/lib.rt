@@ -1,5 +1,19 @@
+// The repeated step, up to a stop address and within a budget.
+use memory::Board;
+use refusal::Outcome;
 use refusal::Refusal;
 use registers::Registers;
+use step::StepAnswer;
+ghost use mathlib.Core.Path.{_≡_};
+ghost use mathlib.Core.Bool.{true, _&&_};
+ghost use Prim.Native.Nat.{_%_, _≤_};
+ghost use lib.ListN.{length};
+ghost use Rattle.memory.specs.Board.{goodBoard};
+ghost use Rattle.step.specs.Step.{after, answered, goodPc, stepOf};
+ghost use Rattle.run.specs.MirrorKept.{Keeps};
+ghost use Rattle.run.specs.MirrorSingle.{outcomeOf};
+ghost use Rattle.run.specs.Run.{ran, told, runFrom, runOf};
+
 mod kept;
 
 // Why a run ended.
@@ -14,4 +28,153 @@ pub struct RunAnswer {
     pub steps: u32,
     pub states: u64,
     pub why: Ending,
+}
+
+fn answer(r: Registers, steps: u32, states: u64, why: Ending) -> RunAnswer
+    ensures { λ q. ⌜ q ≡ told r steps states why ⌝ }
+{
+    RunAnswer {
+        regs: r,
+        steps: steps,
+        states: states,
+        why: why,
+    }
+}
+
+// The board was looked at once; it stays right, and PC stays one that can be. The registers lie here, and each group of entries is called
+// once, from here: so the compiler puts the whole of a step into this loop, which is why the loop is not parted.
+fn repeat(
+    b: Board,
+    rom: &[u8],
+    lines: &mut [u64],
+    ram: &mut [u8],
+    r: Registers,
+    stop: u32,
+    budget: u32,
+) -> RunAnswer
+    requires { ⌜ (budget ≤ 1000000) × (goodBoard b (length (now rom)) (length (now ram)) && goodPc (r .pc) ≡ true) × Keeps (now rom) (now lines) ⌝ }
+    ensures { λ q. ⌜ ran q (now (ram .exit)) ≡ runFrom b (now (rom .entry)) stop budget (now (ram .entry)) r 0 0 ⌝ }
+{
+    let mut er = r.er;
+    let mut pc = r.pc;
+    let mut f = r.condition;
+    let mut steps: u32 = 0;
+    let mut states: u64 = 0;
+    let why = loop {
+        if pc == stop {
+            break Ending::AtStop;
+        }
+        if steps == budget {
+            break Ending::Spent;
+        }
+        let at = pc as usize;
+        if rom.len() <= at {
+            break Ending::Halted(Refusal::FetchOutside(pc));
+        }
+        let e = kept::look(lines, rom, at);
+        let k = (e % 16) as u8;
+        let x = e / 512;
+        let t = match e / 16 % 32 {
+            0 => execute::reg_byte(k, x, pc, &mut er, f),
+            1 => execute::reg_word(k, x, pc, &mut er, f),
+            2 => execute::reg_long(k, x, pc, &mut er, f),
+            3 => execute::imm_byte(k, x, pc, &mut er, f),
+            4 => execute::imm_word(k, x, pc, &mut er, f),
+            5 => execute::imm_long(k, x, pc, &mut er, f),
+            6 => execute::counted(k, x, pc, &mut er, f),
+            7 => execute::turned(k, x, pc, &mut er, f),
+            8 => execute::turned_long(k, x, pc, &mut er, f),
+            9 => transfer::single(k, x, pc, &mut er, f, b, rom, &ram[..]),
+            10 => transfer::moving::byte(k, x, pc, &mut er, f, b, rom, ram),
+            11 => transfer::moving::word(k, x, pc, &mut er, f, b, rom, ram),
+            12 => transfer::moving::long(k, x, pc, &mut er, f, b, rom, ram),
+            13 => execute::branch_near(k, x, pc, f),
+            14 => execute::branch_far(k, x, pc, f),
+            15 => transfer::jump(k, x, pc, &mut er, f, b, rom, ram),
+            _ => turns::refuse(f, Refusal::UnknownCode(pc)),
+        };
+        let o = t.outcome;
+        match o {
+            Outcome::Refused(y) => {
+                break Ending::Halted(y);
+            }
+            Outcome::Done => {}
+        }
+        f = t.condition;
+        pc = registers::pc(t.pc);
+        states = states + t.states as u64;
+        steps = steps + 1;
+    };
+    let q = Registers {
+        er: er,
+        pc: pc,
+        condition: f,
+    };
+    RunAnswer {
+        regs: q,
+        steps: steps,
+        states: states,
+        why: why,
+    }
+}
+
+// A run that keeps what fits into the lines.
+fn start(
+    b: Board,
+    rom: &[u8],
+    lines: &mut [u64],
+    ram: &mut [u8],
+    r: Registers,
+    stop: u32,
+    budget: u32,
+) -> RunAnswer
+    requires { ⌜ Keeps (now rom) (now lines) ⌝ }
+    ensures { λ q. ⌜ ran q (now (ram .exit)) ≡ runOf b (now (rom .entry)) (now (ram .entry)) r stop budget ⌝ }
+{
+    if 1000000 < budget {
+        return answer(r, 0, 0, Ending::Halted(Refusal::BudgetTooLarge));
+    }
+    if memory::good_board(b, rom, &ram[..]) & step::good_pc(r.pc) {
+        return repeat(b, rom, lines, ram, r, stop, budget);
+    }
+    answer(r, 0, 0, Ending::Halted(Refusal::BadBoard))
+}
+
+pub fn run(b: Board, rom: &[u8], ram: &mut [u8], r: Registers, stop: u32, budget: u32) -> RunAnswer
+    ensures { λ q. ⌜ ran q (now (ram .exit)) ≡ runOf b (now (rom .entry)) (now (ram .entry)) r stop budget ⌝ }
+{
+    let mut lines: [u64; 256] = [0; 256];
+    start(b, rom, &mut lines, ram, r, stop, budget)
+}
+
+fn outcome(why: Ending) -> Outcome
+    ensures { λ o. ⌜ o ≡ outcomeOf why ⌝ }
+{
+    match why {
+        Ending::AtStop => Outcome::Done,
+        Ending::Spent => Outcome::Done,
+        Ending::Halted(f) => Outcome::Refused(f),
+    }
+}
+
+fn ended(q: Registers, states: u64, why: Ending) -> StepAnswer
+    ensures { λ s. ⌜ s ≡ answered q (states % 4294967296) (outcomeOf why) ⌝ }
+{
+    let o = outcome(why);
+    StepAnswer {
+        regs: q,
+        states: (states % 4294967296) as u32,
+        outcome: o,
+    }
+}
+
+// One step: a run of one, that keeps nothing. The stop address is odd, and PC is not.
+pub fn single(b: Board, rom: &[u8], ram: &mut [u8], r: Registers) -> StepAnswer
+    ensures { λ q. ⌜ after q (now (ram .exit)) ≡ stepOf b (now (rom .entry)) (now (ram .entry)) r ⌝ }
+{
+    let mut none: [u64; 0] = [];
+    let a = start(b, rom, &mut none, ram, r, 1, 1);
+    let q = a.regs;
+    let why = a.why;
+    ended(q, a.states, why)
 }
