@@ -1,5 +1,5 @@
-// The entries without memory, by their kind: variant k, operands x. A group is called once, from the loop of a run, and stands one function away from the operations:
-// so the compiler puts all of them into that loop, each for the width that is written out.
+// The entries without memory, by their kind: variant k, operands x. Each group is called once, from the loop of a run, and has a table of operations of its own, though
+// some are alike: what is called once the compiler puts into that loop, for the width that is written out; what is called twice, and is long, it does not.
 use arith::Width;
 use codes::Reach;
 use registers::Condition;

@@ -2,7 +2,6 @@
 use crate::ask;
 use crate::fault;
 use crate::fault::Got;
-use arith::Width;
 use registers::Condition;
 use registers::Registers;
 
@@ -46,7 +45,9 @@ fn spoiled(s: Begun) -> Begun {
 }
 
 fn with_er(s: Begun, n: u64, v: u64) -> Begun {
-    let r = registers::with_part(Width::Long, s.regs, (n % 8) as u8, (v % 4294967296) as u32);
+    let mut r = s.regs;
+    let k = (n % 8) as usize;
+    r.er[k] = (v % 4294967296) as u32;
     Begun {
         regs: r,
         bad: s.bad,
