@@ -26,7 +26,7 @@ use Rattle.step.proofs.Laws.{Done-or-not, done, not-done, effect-view}
 use Rattle.codes.specs.declared.Instruction.{Instruction}
 use Rattle.codes.specs.declared.Decoded.the-variants.{Code}
 use Rattle.turns.specs.declared.Turn.{Turn}
-use Rattle.turns.specs.MirrorTurn.{turn, endedOf, toldAs, toldIn}
+use Rattle.turns.specs.MirrorTurn.{turn, endedOf, toldAs, toldIn, TurnsOn}
 
 -- a completed turn tells nothing of the registers before it
 pub done-told : (r q : Registers) (er : List ℕ) (pc : ℕ) (f : Condition) (p n : ℕ) → lent er pc f ≡ q → toldIn er pc (turn f p n Done) ≡ finishOf Done r q p n
@@ -63,7 +63,7 @@ module _ (i : Instruction) (n p : ℕ) (er : List ℕ) (pc : ℕ) (f : Condition
   Goes-to g = followOf (lent er pc f) b rom ram (goesOf i) (nextOf pc n) ≡ g
 
   abbrev pub Acts : List ℕ → List ℕ → Turn → Type 0
-  Acts er′ ram′ t = after (toldIn er′ pc t) ram′ ≡ actOf (Code i n) (lent er pc f) b rom ram
+  Acts er′ ram′ t = TurnsOn (Code i n) er er′ pc f b rom ram ram′ t
 
   -- it did g, which has no memory and is not refused
   pub done-acts : (g : Registers → Registers) (er′ : List ℕ) (f′ : Condition) → Goes-to (Value p)

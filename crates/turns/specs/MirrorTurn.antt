@@ -30,6 +30,10 @@ toldAs (Refused x) er pc t = answered (lent er (t .pc + pc) (t .condition)) (t .
 unfoldable pub toldIn : List ℕ → ℕ → Turn → StepAnswer
 toldIn er pc t = toldAs (t .outcome) er pc t
 
--- er and f became er′ and the turn t as the decoded d says, whatever the memories: d has none to do with them
+-- er, f and ram became er′, the turn t and ram′ as the decoded d says
+abbrev pub TurnsOn : Decoded → List ℕ → List ℕ → ℕ → Condition → Board → List ℕ → List ℕ → List ℕ → Turn → Type 0
+TurnsOn d er er′ pc f b rom ram ram′ t = after (toldIn er′ pc t) ram′ ≡ actOf d (lent er pc f) b rom ram
+
+-- the same whatever the memories, where d has nothing to do with them
 abbrev pub Turns : Decoded → List ℕ → List ℕ → ℕ → Condition → Turn → Type 0
-Turns d er er′ pc f t = (b : Board) (rom ram : List ℕ) → after (toldIn er′ pc t) ram ≡ actOf d (lent er pc f) b rom ram
+Turns d er er′ pc f t = (b : Board) (rom ram : List ℕ) → TurnsOn d er er′ pc f b rom ram ram t
