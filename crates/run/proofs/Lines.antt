@@ -1,11 +1,11 @@
 -- The entry of a place means what the decoder finds there, and a new line keeps what the lines keep. Assumes nothing.
-use Prim.Native.Nat.{ℕ, _+_, _*_, _/_, _%_, _<_}
+use Prim.Native.Nat.{ℕ, zero, suc, _+_, _*_, _/_, _%_, _<_}
 use mathlib.Core.Path.{_≡_, refl, sym, _∙_, ap}
-use mathlib.Core.Bool.{Bool, true, false}
-use mathlib.Core.List.{List}
+use mathlib.Core.Bool.{Bool, true, false, _&&_}
+use mathlib.Core.List.{List, [], _∷_}
 use native.Mathlib.Omega.{arith}
 use lib.Dec.{eqb, ltb}
-use lib.ListN.{getD, set, length, drop}
+use lib.ListN.{getD, set, length}
 use lib.Seq.{getD-set-same, getD-set-other, set-out}
 use borrow.Author.Tests.{eqb-true, eqb-false, ltb-true, ltb-false}
 use Rattle.codes.specs.Exact.{Bytes}
@@ -16,6 +16,7 @@ use Rattle.decoder.specs.declared.whole.Found.the-variants.{Is, Cut, Unlisted}
 use Rattle.decoder.proofs.Laws.{code-read}
 use Rattle.entry.specs.Entry.{meaningOf}
 use Rattle.entry.proofs.Laws.{packed, small, unknown-means, cut-means}
+use Rattle.run.proofs.Turns.{both}
 use Rattle.run.specs.MirrorKept.{entryOf, Means, Keeps}
 
 -- ---- the entry of bytes
@@ -76,5 +77,14 @@ module _ (rom lines : List ℕ) (k : Keeps rom lines) (at e : ℕ) (even : at % 
   keeps = room _ refl
 
 -- lines of 0 keep nothing
-pub none-kept : (rom lines : List ℕ) → ((i : ℕ) → getD lines i 0 ≡ 0) → Keeps rom lines
-none-kept rom lines z = record { holds = λ at ev h. absurd (let n = z (lineOf at) in omega arith) }
+abbrev pub zeros : List ℕ → Bool
+zeros [] = true
+zeros (x ∷ l) = eqb x 0 && zeros l
+
+zero-at : (l : List ℕ) → zeros l ≡ true → (i : ℕ) → getD l i 0 ≡ 0
+zero-at [] h i = refl
+zero-at (x ∷ l) h zero = eqb-true x 0 (both (eqb x 0) (zeros l) h .0)
+zero-at (x ∷ l) h (suc i) = zero-at l (both (eqb x 0) (zeros l) h .1) i
+
+pub none-kept : (rom lines : List ℕ) → zeros lines ≡ true → Keeps rom lines
+none-kept rom lines z = record { holds = λ at ev h. absurd (let n = zero-at lines z (lineOf at) in omega arith) }

@@ -172,7 +172,7 @@ fn ended(q: Registers, states: u64, why: Ending) -> StepAnswer
 pub fn single(b: Board, rom: &[u8], ram: &mut [u8], r: Registers) -> StepAnswer
     ensures { λ q. ⌜ after q (now (ram .exit)) ≡ stepOf b (now (rom .entry)) (now (ram .entry)) r ⌝ }
 {
-    let mut none: [u64; 0] = [];
+    let mut none: [u64; 0] = [0; 0];
     let a = start(b, rom, &mut none, ram, r, 1, 1);
     let q = a.regs;
     let why = a.why;

@@ -86,11 +86,11 @@ loop-holds c = (search needs, search needs, search needs, search needs, rw sub-z
 
 -- src/lib.rt:71:18
 cast-at : tie.Need-cast-at Inv-loop μ-loop
-cast-at c = let s = c .before .before .loop in let h = pc-fits _ (s .pc) (s .inv .5) in search needs
+cast-at c = let a = c .before .before .before .before .before .before .before .before .args in let s = c .before .before .loop in let h = pc-fits (goodBoard (a .b) (length (a .rom .now)) (length (s .ram))) (s .pc) (s .inv .5) in omega arith
 
 -- src/lib.rt:75:13
 look-requires : tie.Need-look-requires Inv-loop μ-loop
-look-requires c κs = let s = c .before .before .before .before .loop in let h = pc-fits _ (s .pc) (s .inv .5) in (c .before .if3 .left, h .0, h .1, s .inv .6)
+look-requires c κs = let a = c .before .before .before .before .before .before .before .before .before .before .args in let s = c .before .before .before .before .loop in let h = pc-fits (goodBoard (a .b) (length (a .rom .now)) (length (s .ram))) (s .pc) (s .inv .5) in (c .before .if3 .left, h .0, h .1, s .inv .6)
 
 -- src/lib.rt:76:17
 cast-k : tie.Need-cast-k Inv-loop μ-loop

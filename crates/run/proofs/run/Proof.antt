@@ -1,3 +1,5 @@
+use mathlib.Core.Path.{refl}
+use Rattle.run.proofs.Lines.{none-kept}
 use borrow.Author.Needs.{needs}
 use Rattle.run.proofs.run.Statement.{statement}
 use Rattle.run.proofs.run.Tie as tie
@@ -11,7 +13,7 @@ slice-aggregate-start c = search needs
 
 -- src/lib.rt:148:5
 start-requires : tie.Need-start-requires
-start-requires c κs = ?
+start-requires c κs = none-kept _ _ refl
 
 -- src/lib.rt:144:1
 same-length : tie.Need-same-length
