@@ -9,7 +9,6 @@ use lib.Dec.{eqb, ltb}
 use lib.ListN.{length}
 use Rattle.refusal.specs.declared.Refusal.{Refusal}
 use Rattle.refusal.specs.declared.Refusal.the-variants.{FetchOutside}
-use Rattle.refusal.specs.declared.Outcome.{Outcome}
 use Rattle.refusal.specs.declared.Outcome.the-variants.{Done, Refused}
 use Rattle.registers.specs.declared.Condition.{Condition}
 use Rattle.registers.specs.declared.Registers.{Registers}
@@ -25,7 +24,7 @@ use Rattle.turns.specs.declared.Turn.{Turn}
 use Rattle.turns.specs.MirrorTurn.{toldAs, toldIn}
 use Rattle.turns.proofs.Laws.{told-done, told-refused}
 use Rattle.run.specs.MirrorKept.{Means}
-use Rattle.run.specs.Run.{Ran, ran, told, onward, runFrom}
+use Rattle.run.specs.Run.{ran, told, runFrom}
 use Rattle.run.specs.declared.Ending.the-variants.{AtStop, Spent, Halted}
 
 -- ---- the entry at PC

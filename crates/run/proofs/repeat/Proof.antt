@@ -1,4 +1,4 @@
-use Prim.Native.Nat.{ℕ, _+_, _-_, _*_, _/_, _%_, _≤_}
+use Prim.Native.Nat.{ℕ, _-_, _*_, _≤_}
 use mathlib.Core.Path.{_≡_, refl, sym, _∙_, ap}
 use mathlib.Core.Bool.{true, _&&_}
 use mathlib.Core.List.{List}
@@ -12,7 +12,7 @@ use Rattle.refusal.specs.declared.Outcome.the-variants.{Done}
 use Rattle.registers.specs.Lent.{lent}
 use Rattle.memory.specs.Board.{goodBoard}
 use Rattle.entry.specs.Entry.{byKind}
-use Rattle.step.specs.Step.{After, after, answered, stays, actOf, goodPc, fetchOf}
+use Rattle.step.specs.Step.{after, answered, actOf, goodPc, fetchOf}
 use Rattle.turns.specs.MirrorTurn.{toldIn}
 use Rattle.turns.proofs.Laws.{refused-stays}
 use Rattle.run.specs.MirrorKept.{Keeps}
@@ -54,7 +54,10 @@ abbrev Met : Type 0
 Met = lts.At-match-came (look-reads.Asked, look-reads.Learnt, reg-byte-reads.Asked, reg-byte-reads.Learnt, reg-word-reads.Asked, reg-word-reads.Learnt, reg-long-reads.Asked, reg-long-reads.Learnt, imm-byte-reads.Asked, imm-byte-reads.Learnt, imm-word-reads.Asked, imm-word-reads.Learnt, imm-long-reads.Asked, imm-long-reads.Learnt, counted-reads.Asked, counted-reads.Learnt, turned-reads.Asked, turned-reads.Learnt, turned-long-reads.Asked, turned-long-reads.Learnt, single-reads.Asked, single-reads.Learnt, byte-reads.Asked, byte-reads.Learnt, word-reads.Asked, word-reads.Learnt, long-reads.Asked, long-reads.Learnt, branch-near-reads.Asked, branch-near-reads.Learnt, branch-far-reads.Asked, branch-far-reads.Learnt, jump-reads.Asked, jump-reads.Learnt, refuse-reads.Asked, refuse-reads.Learnt, pc-reads.Asked, pc-reads.Learnt) reads.Pre reads.Post Inv-loop μ-loop
 
 -- whichever group was called, it left what the step leaves
-turned : (c : Met) → (let l = c .before .before .before .before .before .before .before .before in after (toldIn (c .match .er) (l .loop .pc) (c .match .t)) (c .match .ram) ≡ fetchOf (lent (l .loop .er) (l .loop .pc) (l .loop .f)) (c .before .before .before .before .before .before .before .before .before .before .before .before .before .before .args .b) (c .before .before .before .before .before .before .before .before .before .before .before .before .before .before .args .rom .now) (l .loop .ram))
+turned : (c : Met) → (
+    let a = c .before .before .before .before .before .before .before .before .before .before .before .before .before .before .args in
+    let s = c .before .before .before .before .before .before .before .before .loop in
+    after (toldIn (c .match .er) (s .pc) (c .match .t)) (c .match .ram) ≡ fetchOf (lent (s .er) (s .pc) (s .f)) (a .b) (a .rom .now) (s .ram))
 unfolding byKind actOf
 turned c =
     let a = c .before .before .before .before .before .before .before .before .before .before .before .before .before .before .args in
@@ -62,146 +65,43 @@ turned c =
     let e = c .before .before .before .look in
     let by = by-kind (lent (s .er) (s .pc) (s .f)) (a .b) (a .rom .now) (s .ram) (e .result) (c .before .before .before .before .before .if3 .left) (e .ensures .0) in
     ⊎-elim (λ w. simp (w .3, w .4, w .5) (by 0 (w .0 .keys1) _ (w .2 .ensures (a .b) (a .rom .now) (s .ram))))
-        (⊎-elim (λ w. simp (w .3, w .4, w .5) (by 1 (w .0 .keys2) _ (w .2 .ensures (a .b) (a .rom .now) (s .ram))))
-        (⊎-elim (λ w. simp (w .3, w .4, w .5) (by 2 (w .0 .keys3) _ (w .2 .ensures (a .b) (a .rom .now) (s .ram))))
-        (⊎-elim (λ w. simp (w .3, w .4, w .5) (by 3 (w .0 .keys4) _ (w .2 .ensures (a .b) (a .rom .now) (s .ram))))
-        (⊎-elim (λ w. simp (w .3, w .4, w .5) (by 4 (w .0 .keys5) _ (w .2 .ensures (a .b) (a .rom .now) (s .ram))))
-        (⊎-elim (λ w. simp (w .3, w .4, w .5) (by 5 (w .0 .keys6) _ (w .2 .ensures (a .b) (a .rom .now) (s .ram))))
-        (⊎-elim (λ w. simp (w .3, w .4, w .5) (by 6 (w .0 .keys7) _ (w .2 .ensures (a .b) (a .rom .now) (s .ram))))
-        (⊎-elim (λ w. simp (w .3, w .4, w .5) (by 7 (w .0 .keys8) _ (w .2 .ensures (a .b) (a .rom .now) (s .ram))))
-        (⊎-elim (λ w. simp (w .3, w .4, w .5) (by 8 (w .0 .keys9) _ (w .2 .ensures (a .b) (a .rom .now) (s .ram))))
-        (⊎-elim (λ w. simp (w .4, w .5, w .6) (by 9 (w .0 .keys10) _ (w .3 .ensures)))
-        (⊎-elim (λ w. simp (w .6, w .7, w .8) (by 10 (w .0 .keys11) _ (w .3 .ensures)))
-        (⊎-elim (λ w. simp (w .6, w .7, w .8) (by 11 (w .0 .keys12) _ (w .3 .ensures)))
-        (⊎-elim (λ w. simp (w .6, w .7, w .8) (by 12 (w .0 .keys13) _ (w .3 .ensures)))
-        (⊎-elim (λ w. simp (w .2, w .3, w .4) (by 13 (w .0 .keys14) _ (w .1 .ensures (s .er) (a .b) (a .rom .now) (s .ram))))
-        (⊎-elim (λ w. simp (w .2, w .3, w .4) (by 14 (w .0 .keys15) _ (w .1 .ensures (s .er) (a .b) (a .rom .now) (s .ram))))
-        (⊎-elim (λ w. simp (w .6, w .7, w .8) (by 15 (w .0 .keys16) _ (w .3 .ensures)))
-        (λ w. simp (w .2, w .3, w .4, w .1 .ensures) (by _ refl _ (simp (ne-eqb _ _ (w .0 .rest .0 .0 .0 .0 .0 .0 .0 .0 .0 .0 .0 .0 .0 .0 .0 .1), ne-eqb _ _ (w .0 .rest .0 .0 .0 .0 .0 .0 .0 .0 .0 .0 .0 .0 .0 .0 .1), ne-eqb _ _ (w .0 .rest .0 .0 .0 .0 .0 .0 .0 .0 .0 .0 .0 .0 .0 .1), ne-eqb _ _ (w .0 .rest .0 .0 .0 .0 .0 .0 .0 .0 .0 .0 .0 .0 .1), ne-eqb _ _ (w .0 .rest .0 .0 .0 .0 .0 .0 .0 .0 .0 .0 .0 .1), ne-eqb _ _ (w .0 .rest .0 .0 .0 .0 .0 .0 .0 .0 .0 .0 .1), ne-eqb _ _ (w .0 .rest .0 .0 .0 .0 .0 .0 .0 .0 .0 .1), ne-eqb _ _ (w .0 .rest .0 .0 .0 .0 .0 .0 .0 .0 .1), ne-eqb _ _ (w .0 .rest .0 .0 .0 .0 .0 .0 .0 .1), ne-eqb _ _ (w .0 .rest .0 .0 .0 .0 .0 .0 .1), ne-eqb _ _ (w .0 .rest .0 .0 .0 .0 .0 .1), ne-eqb _ _ (w .0 .rest .0 .0 .0 .0 .1), ne-eqb _ _ (w .0 .rest .0 .0 .0 .1), ne-eqb _ _ (w .0 .rest .0 .0 .1), ne-eqb _ _ (w .0 .rest .0 .1), ne-eqb _ _ (w .0 .rest .1), refused-stays)))))))))))))))))))
+    (⊎-elim (λ w. simp (w .3, w .4, w .5) (by 1 (w .0 .keys2) _ (w .2 .ensures (a .b) (a .rom .now) (s .ram))))
+    (⊎-elim (λ w. simp (w .3, w .4, w .5) (by 2 (w .0 .keys3) _ (w .2 .ensures (a .b) (a .rom .now) (s .ram))))
+    (⊎-elim (λ w. simp (w .3, w .4, w .5) (by 3 (w .0 .keys4) _ (w .2 .ensures (a .b) (a .rom .now) (s .ram))))
+    (⊎-elim (λ w. simp (w .3, w .4, w .5) (by 4 (w .0 .keys5) _ (w .2 .ensures (a .b) (a .rom .now) (s .ram))))
+    (⊎-elim (λ w. simp (w .3, w .4, w .5) (by 5 (w .0 .keys6) _ (w .2 .ensures (a .b) (a .rom .now) (s .ram))))
+    (⊎-elim (λ w. simp (w .3, w .4, w .5) (by 6 (w .0 .keys7) _ (w .2 .ensures (a .b) (a .rom .now) (s .ram))))
+    (⊎-elim (λ w. simp (w .3, w .4, w .5) (by 7 (w .0 .keys8) _ (w .2 .ensures (a .b) (a .rom .now) (s .ram))))
+    (⊎-elim (λ w. simp (w .3, w .4, w .5) (by 8 (w .0 .keys9) _ (w .2 .ensures (a .b) (a .rom .now) (s .ram))))
+    (⊎-elim (λ w. simp (w .4, w .5, w .6) (by 9 (w .0 .keys10) _ (w .3 .ensures)))
+    (⊎-elim (λ w. simp (w .6, w .7, w .8) (by 10 (w .0 .keys11) _ (w .3 .ensures)))
+    (⊎-elim (λ w. simp (w .6, w .7, w .8) (by 11 (w .0 .keys12) _ (w .3 .ensures)))
+    (⊎-elim (λ w. simp (w .6, w .7, w .8) (by 12 (w .0 .keys13) _ (w .3 .ensures)))
+    (⊎-elim (λ w. simp (w .2, w .3, w .4) (by 13 (w .0 .keys14) _ (w .1 .ensures (s .er) (a .b) (a .rom .now) (s .ram))))
+    (⊎-elim (λ w. simp (w .2, w .3, w .4) (by 14 (w .0 .keys15) _ (w .1 .ensures (s .er) (a .b) (a .rom .now) (s .ram))))
+    (⊎-elim (λ w. simp (w .6, w .7, w .8) (by 15 (w .0 .keys16) _ (w .3 .ensures)))
+    (λ w. simp (w .2, w .3, w .4, w .1 .ensures) (by _ refl _ (simp (ne-eqb _ _ (w .0 .rest .0 .0 .0 .0 .0 .0 .0 .0 .0 .0 .0 .0 .0 .0 .0 .1), ne-eqb _ _ (w .0 .rest .0 .0 .0 .0 .0 .0 .0 .0 .0 .0 .0 .0 .0 .0 .1), ne-eqb _ _ (w .0 .rest .0 .0 .0 .0 .0 .0 .0 .0 .0 .0 .0 .0 .0 .1), ne-eqb _ _ (w .0 .rest .0 .0 .0 .0 .0 .0 .0 .0 .0 .0 .0 .0 .1), ne-eqb _ _ (w .0 .rest .0 .0 .0 .0 .0 .0 .0 .0 .0 .0 .0 .1), ne-eqb _ _ (w .0 .rest .0 .0 .0 .0 .0 .0 .0 .0 .0 .0 .1), ne-eqb _ _ (w .0 .rest .0 .0 .0 .0 .0 .0 .0 .0 .0 .1), ne-eqb _ _ (w .0 .rest .0 .0 .0 .0 .0 .0 .0 .0 .1), ne-eqb _ _ (w .0 .rest .0 .0 .0 .0 .0 .0 .0 .1), ne-eqb _ _ (w .0 .rest .0 .0 .0 .0 .0 .0 .1), ne-eqb _ _ (w .0 .rest .0 .0 .0 .0 .0 .1), ne-eqb _ _ (w .0 .rest .0 .0 .0 .0 .1), ne-eqb _ _ (w .0 .rest .0 .0 .0 .1), ne-eqb _ _ (w .0 .rest .0 .0 .1), ne-eqb _ _ (w .0 .rest .0 .1), ne-eqb _ _ (w .0 .rest .1), refused-stays)))))))))))))))))))
     (c .match .came)
 
--- src/lib.rt:64:9
-loop-holds : tie.Need-loop-holds Inv-loop μ-loop
-loop-holds c = (search needs, search needs, search needs, search needs, rw sub-zero, c .before .before .before .before .before .pre .1, c .before .before .before .before .before .pre .2)
-
--- src/lib.rt:71:18
-cast-at : tie.Need-cast-at Inv-loop μ-loop
-cast-at c = let a = c .before .before .before .before .before .before .before .before .args in let s = c .before .before .loop in let h = pc-fits (goodBoard (a .b) (length (a .rom .now)) (length (s .ram))) (s .pc) (s .inv .5) in omega arith
-
--- src/lib.rt:75:13
-look-requires : tie.Need-look-requires Inv-loop μ-loop
-look-requires c κs = let a = c .before .before .before .before .before .before .before .before .before .before .args in let s = c .before .before .before .before .loop in let h = pc-fits (goodBoard (a .b) (length (a .rom .now)) (length (s .ram))) (s .pc) (s .inv .5) in (c .before .if3 .left, h .0, h .1, s .inv .6)
-
--- src/lib.rt:76:17
-cast-k : tie.Need-cast-k Inv-loop μ-loop
-cast-k c = search needs
-
--- src/lib.rt:79:18
-reg-byte-requires : tie.Need-reg-byte-requires Inv-loop μ-loop
-reg-byte-requires c κs = search needs
-
--- src/lib.rt:80:18
-reg-word-requires : tie.Need-reg-word-requires Inv-loop μ-loop
-reg-word-requires c κs = search needs
-
--- src/lib.rt:81:18
-reg-long-requires : tie.Need-reg-long-requires Inv-loop μ-loop
-reg-long-requires c κs = search needs
-
--- src/lib.rt:82:18
-imm-byte-requires : tie.Need-imm-byte-requires Inv-loop μ-loop
-imm-byte-requires c κs = search needs
-
--- src/lib.rt:83:18
-imm-word-requires : tie.Need-imm-word-requires Inv-loop μ-loop
-imm-word-requires c κs = search needs
-
--- src/lib.rt:84:18
-imm-long-requires : tie.Need-imm-long-requires Inv-loop μ-loop
-imm-long-requires c κs = search needs
-
--- src/lib.rt:85:18
-counted-requires : tie.Need-counted-requires Inv-loop μ-loop
-counted-requires c κs = search needs
-
--- src/lib.rt:86:18
-turned-requires : tie.Need-turned-requires Inv-loop μ-loop
-turned-requires c κs = search needs
-
--- src/lib.rt:87:18
-turned-long-requires : tie.Need-turned-long-requires Inv-loop μ-loop
-turned-long-requires c κs = search needs
-
--- src/lib.rt:88:18
-single-requires : tie.Need-single-requires Inv-loop μ-loop
-single-requires c κs = search needs
-
--- src/lib.rt:89:19
-byte-requires : tie.Need-byte-requires Inv-loop μ-loop
-byte-requires c κs = search needs
-
--- src/lib.rt:90:19
-word-requires : tie.Need-word-requires Inv-loop μ-loop
-word-requires c κs = search needs
-
--- src/lib.rt:91:19
-long-requires : tie.Need-long-requires Inv-loop μ-loop
-long-requires c κs = search needs
-
--- src/lib.rt:92:19
-branch-near-requires : tie.Need-branch-near-requires Inv-loop μ-loop
-branch-near-requires c κs = search needs
-
--- src/lib.rt:93:19
-branch-far-requires : tie.Need-branch-far-requires Inv-loop μ-loop
-branch-far-requires c κs = search needs
-
--- src/lib.rt:94:19
-jump-requires : tie.Need-jump-requires Inv-loop μ-loop
-jump-requires c κs = search needs
-
--- src/lib.rt:95:18
-refuse-requires : tie.Need-refuse-requires Inv-loop μ-loop
-refuse-requires c κs = search needs
-
--- src/lib.rt:99:30
-enum-known-o : tie.Need-enum-known-o Inv-loop μ-loop
-enum-known-o c = search needs
-
-enum-told : tie.Need-enum-told Inv-loop μ-loop
-enum-told c = search needs
-
--- src/lib.rt:105:9
-pc-requires : tie.Need-pc-requires Inv-loop μ-loop
-pc-requires c κs = search needs
-
--- src/lib.rt:106:27
-cast-states : tie.Need-cast-states Inv-loop μ-loop
-cast-states c = search needs
-
--- src/lib.rt:106:18
-add-states : tie.Need-add-states Inv-loop μ-loop
-add-states c = search needs
-
--- src/lib.rt:107:17
-add-steps : tie.Need-add-steps Inv-loop μ-loop
-add-steps c = search needs
-
--- src/lib.rt:64:9
-loop-less : tie.Need-loop-less Inv-loop μ-loop
-loop-less c = search needs
-
--- src/lib.rt:64:9
-loop-again : tie.Need-loop-again Inv-loop μ-loop
-loop-again c =
+pub repeat-spec : {M : Type 1} → statement M
+repeat-spec =
+    tie.close
+    (tie.spec Inv-loop μ-loop
+    (λ c. (search needs, search needs, search needs, search needs, rw sub-zero, c .before .before .before .before .before .pre .1, c .before .before .before .before .before .pre .2))
+    (λ c. let a = c .before .before .before .before .before .before .before .before .args in let s = c .before .before .loop in let h = pc-fits (goodBoard (a .b) (length (a .rom .now)) (length (s .ram))) (s .pc) (s .inv .5) in omega arith)
+    (λ c κs. let a = c .before .before .before .before .before .before .before .before .before .before .args in let s = c .before .before .before .before .loop in let h = pc-fits (goodBoard (a .b) (length (a .rom .now)) (length (s .ram))) (s .pc) (s .inv .5) in (c .before .if3 .left, h .0, h .1, s .inv .6))
+    (λ c. search needs) (λ c κs. search needs) (λ c κs. search needs) (λ c κs. search needs) (λ c κs. search needs) (λ c κs. search needs)
+    (λ c κs. search needs) (λ c κs. search needs) (λ c κs. search needs) (λ c κs. search needs) (λ c κs. search needs) (λ c κs. search needs)
+    (λ c κs. search needs) (λ c κs. search needs) (λ c κs. search needs) (λ c κs. search needs) (λ c κs. search needs) (λ c κs. search needs)
+    (λ c. search needs) (λ c. search needs) (λ c κs. search needs) (λ c. search needs) (λ c. search needs) (λ c. search needs) (λ c. search needs)
+    (λ c.
     let m = c .before .before .before .before .before in
     let a = m .before .before .before .before .before .before .before .before .before .before .before .before .before .before .args in
     let s = m .before .before .before .before .before .before .before .before .loop in
     let r = lent (s .er) (s .pc) (s .f) in
     let t = m .match .t in
     let n = answered (lent (m .match .er) (c .before .pc .result) (t .condition)) (t .states) Done in
-    let e : after n (m .match .ram) ≡ fetchOf r (a .b) (a .rom .now) (s .ram) = rw (c .before .pc .ensures) (turn-done (s .er) (m .match .er) (s .pc) (s .f) t (a .b) (a .rom .now) (s .ram) (m .match .ram) (turned m) (c .before .before .before .enum-told .given .1)) in
-    (
+    let e : after n (m .match .ram) ≡ fetchOf r (a .b) (a .rom .now) (s .ram) = rw (c .before .pc .ensures) (turn-done (s .er) (m .match .er) (s .pc) (s .f) t (a .b) (a .rom .now) (s .ram) (m .match .ram) (turned m) (c .before .before .before .enum-told .given .1)) in (
       search needs,
       length-kept (a .b) (a .rom .now) (a .stop) (s .ram) r (s .steps) (s .states) (s .inv .5) n (m .match .ram) e refl ∙ s .inv .1,
       omega (arith, s .inv .2, m .before .before .before .before .before .before .if2 .left),
@@ -209,70 +109,30 @@ loop-again c =
       sym (goes-on (a .b) (a .rom .now) (a .stop) (s .ram) r (s .steps) (s .states) (s .inv .5) n (m .match .ram) e (a .budget) (m .before .before .before .before .before .before .before .if1 .left) (s .inv .2) (m .before .before .before .before .before .before .if2 .left) refl) ∙ s .inv .4,
       still-good (a .b) (a .rom .now) (a .stop) (s .ram) r (s .steps) (s .states) (s .inv .5) n (m .match .ram) e refl,
       m .before .before .before .look .ensures .1,
-    )
-
--- src/lib.rt:47:1
-same-length : tie.Need-same-length Inv-loop μ-loop
-same-length c = search needs
-
--- src/lib.rt:47:1
-same-length-2 : tie.Need-same-length-2 Inv-loop μ-loop
-same-length-2 c = search needs
-
--- src/lib.rt:47:1
-returns : tie.Need-returns Inv-loop μ-loop
-returns c =
+    ))
+    (λ c. search needs) (λ c. search needs)
+    (λ c.
     let a = c .before .before .before .before .before .before .before .args in
     let s = c .before .loop in
-    sym (stops (a .b) (a .rom .now) (a .stop) (s .ram) (lent (s .er) (s .pc) (s .f)) (s .steps) (s .states) (a .budget - s .steps) (c .if1 .taken)) ∙ s .inv .4
-
--- src/lib.rt:47:1
-same-length-3 : tie.Need-same-length-3 Inv-loop μ-loop
-same-length-3 c = search needs
-
--- src/lib.rt:47:1
-same-length-4 : tie.Need-same-length-4 Inv-loop μ-loop
-same-length-4 c = search needs
-
--- src/lib.rt:47:1
-returns-2 : tie.Need-returns-2 Inv-loop μ-loop
-returns-2 c =
+    sym (stops (a .b) (a .rom .now) (a .stop) (s .ram) (lent (s .er) (s .pc) (s .f)) (s .steps) (s .states) (a .budget - s .steps) (c .if1 .taken)) ∙ s .inv .4)
+    (λ c. search needs) (λ c. search needs)
+    (λ c.
     let a = c .before .before .before .before .before .before .before .before .args in
     let s = c .before .before .loop in
-    sym (spent (a .b) (a .rom .now) (a .stop) (s .ram) (lent (s .er) (s .pc) (s .f)) (s .steps) (s .states) (a .budget) (c .before .if1 .left) (c .if2 .taken)) ∙ s .inv .4
-
--- src/lib.rt:47:1
-same-length-5 : tie.Need-same-length-5 Inv-loop μ-loop
-same-length-5 c = search needs
-
--- src/lib.rt:47:1
-same-length-6 : tie.Need-same-length-6 Inv-loop μ-loop
-same-length-6 c = search needs
-
--- src/lib.rt:47:1
-returns-3 : tie.Need-returns-3 Inv-loop μ-loop
-returns-3 c =
+    sym (spent (a .b) (a .rom .now) (a .stop) (s .ram) (lent (s .er) (s .pc) (s .f)) (s .steps) (s .states) (a .budget) (c .before .if1 .left) (c .if2 .taken)) ∙ s .inv .4)
+    (λ c. search needs) (λ c. search needs)
+    (λ c.
     let a = c .before .before .before .before .before .before .before .before .before .args in
     let s = c .before .before .before .loop in
     let r = lent (s .er) (s .pc) (s .f) in
-    sym (refused (a .b) (a .rom .now) (a .stop) (s .ram) r (s .steps) (s .states) (s .inv .5) _ _ (outside r (a .b) (a .rom .now) (s .ram) (c .if3 .taken)) (a .budget) (c .before .before .if1 .left) (s .inv .2) (c .before .if2 .left) _ refl) ∙ s .inv .4
-
--- src/lib.rt:47:1
-same-length-7 : tie.Need-same-length-7 Inv-loop μ-loop
-same-length-7 c = search needs
-
--- src/lib.rt:47:1
-same-length-8 : tie.Need-same-length-8 Inv-loop μ-loop
-same-length-8 c =
+    sym (refused (a .b) (a .rom .now) (a .stop) (s .ram) r (s .steps) (s .states) (s .inv .5) _ _ (outside r (a .b) (a .rom .now) (s .ram) (c .if3 .taken)) (a .budget) (c .before .before .if1 .left) (s .inv .2) (c .before .if2 .left) _ refl) ∙ s .inv .4)
+    (λ c. search needs)
+    (λ c.
     let m = c .before .before .before in
     let a = m .before .before .before .before .before .before .before .before .before .before .before .before .before .before .args in
     let s = m .before .before .before .before .before .before .before .before .loop in
-    let r = lent (s .er) (s .pc) (s .f) in
-    ap (λ (l : List ℕ). length l) (same-memory (s .er) (m .match .er) (s .pc) (s .f) (m .match .t) (a .b) (a .rom .now) (s .ram) (m .match .ram) (turned m) _ (c .before .o .given .1)) ∙ s .inv .1
-
--- src/lib.rt:47:1
-returns-4 : tie.Need-returns-4 Inv-loop μ-loop
-returns-4 c =
+    ap (λ (l : List ℕ). length l) (same-memory (s .er) (m .match .er) (s .pc) (s .f) (m .match .t) (a .b) (a .rom .now) (s .ram) (m .match .ram) (turned m) _ (c .before .o .given .1)) ∙ s .inv .1)
+    (λ c.
     let m = c .before .before .before in
     let a = m .before .before .before .before .before .before .before .before .before .before .before .before .before .before .args in
     let s = m .before .before .before .before .before .before .before .before .loop in
@@ -280,52 +140,4 @@ returns-4 c =
     let x = c .before .o .given .1 in
     let e = turn-refused (s .er) (m .match .er) (s .pc) (s .f) (m .match .t) (a .b) (a .rom .now) (s .ram) (m .match .ram) (turned m) _ x in
     rw (same-registers (s .er) (m .match .er) (s .pc) (s .f) (m .match .t) (a .b) (a .rom .now) (s .ram) (m .match .ram) (turned m) _ x)
-    (sym (refused (a .b) (a .rom .now) (a .stop) (s .ram) r (s .steps) (s .states) (s .inv .5) _ _ e (a .budget) (m .before .before .before .before .before .before .before .if1 .left) (s .inv .2) (m .before .before .before .before .before .before .if2 .left) _ refl) ∙ s .inv .4)
-
-pub repeat-spec : {M : Type 1} → statement M
-repeat-spec =
-    tie.close
-    (tie.spec
-    Inv-loop
-    μ-loop
-    loop-holds
-    cast-at
-    look-requires
-    cast-k
-    reg-byte-requires
-    reg-word-requires
-    reg-long-requires
-    imm-byte-requires
-    imm-word-requires
-    imm-long-requires
-    counted-requires
-    turned-requires
-    turned-long-requires
-    single-requires
-    byte-requires
-    word-requires
-    long-requires
-    branch-near-requires
-    branch-far-requires
-    jump-requires
-    refuse-requires
-    enum-known-o
-    enum-told
-    pc-requires
-    cast-states
-    add-states
-    add-steps
-    loop-less
-    loop-again
-    same-length
-    same-length-2
-    returns
-    same-length-3
-    same-length-4
-    returns-2
-    same-length-5
-    same-length-6
-    returns-3
-    same-length-7
-    same-length-8
-    returns-4)
+    (sym (refused (a .b) (a .rom .now) (a .stop) (s .ram) r (s .steps) (s .states) (s .inv .5) _ _ e (a .budget) (m .before .before .before .before .before .before .before .if1 .left) (s .inv .2) (m .before .before .before .before .before .before .if2 .left) _ refl) ∙ s .inv .4)))
