@@ -1,6 +1,7 @@
 /* The library's speed against plain C that holds the same set and makes the same checks (plain.c), in one run: each pair of
    measurements is taken one right behind the other, and the ratio is the median of the pairs'. Time is the process's own.
-   speed SAMPLES */
+   speed SAMPLES                       all, as a table
+   speed SAMPLES WORK WHICH TIMES      so many times a small piece of one work by one side, to count its instructions */
 #include "file.h"
 #include "plain.h"
 #include <stdio.h>
@@ -31,6 +32,8 @@ static void load(const char *folder, const char *name)
     snprintf(path, sizeof path, "%s/%s.bin", folder, name);
     rom_n = read_file(path, rom, sizeof rom);
 }
+
+static uint64_t piece = 1;                  /* of the units of a work this part is done */
 
 /* Runs again and again from `pc` until so many steps are done. Answers the steps. */
 static uint64_t runs(run_function *f, uint32_t pc, uint32_t stop, uint64_t steps)
@@ -74,11 +77,11 @@ static uint64_t figures(figure_function *f, int times)
 
 /* What is measured: `which` 0 is the library, 1 plain C. Answers how many units were done. */
 struct work { const char *what, *unit; uint64_t (*work)(int which); };
-static uint64_t sheet(int w) { return runs(w ? plain_run : h8_run, 0x200, 0xFFFFFFFF, 4000000); }
-static uint64_t decimal(int w) { return runs(w ? plain_run : h8_run, 0, 0x24, 4000000); }
-static uint64_t copy(int w) { return runs(w ? plain_run : h8_run, 0, 0x22, 4000000); }
-static uint64_t one_by_one(int w) { return steps_alone(w ? plain_step : h8_step, 0, 2000000); }
-static uint64_t branches(int w) { return figures(w ? plain_figure : h8_figure, 10); }
+static uint64_t sheet(int w) { return runs(w ? plain_run : h8_run, 0x200, 0xFFFFFFFF, 4000000 / piece); }
+static uint64_t decimal(int w) { return runs(w ? plain_run : h8_run, 0, 0x24, 4000000 / piece); }
+static uint64_t copy(int w) { return runs(w ? plain_run : h8_run, 0, 0x22, 4000000 / piece); }
+static uint64_t one_by_one(int w) { return steps_alone(w ? plain_step : h8_step, 0, 2000000 / piece); }
+static uint64_t branches(int w) { return figures(w ? plain_figure : h8_figure, piece == 1 ? 10 : 1); }
 
 static int ascending(const void *a, const void *b)
 {
@@ -117,29 +120,50 @@ static int compare(const struct work *w)
     return 0;
 }
 
+static const struct { const char *sample; struct work work; } all[] = {
+    {"sheet", {"run, sheet counter in a loop", "step", sheet}},
+    {"decimal", {"run, decimal counter up and down", "step", decimal}},
+    {"copy", {"run, copy loop", "step", copy}},
+    {"decimal", {"step, one call each, decimal counter", "step", one_by_one}},
+    {NULL, {"figure, 524,288 bytes of conditional branches", "place", branches}},
+};
+enum { WORKS = sizeof all / sizeof *all };
+
+static void prepare(const char *folder, size_t i)
+{
+    if (all[i].sample) {
+        load(folder, all[i].sample);
+        return;
+    }
+    rom_n = ROM_MAX;
+    for (size_t k = 0; k < ROM_MAX; k += 2)
+        rom[k] = k < ROM_MAX - 4 ? 0x47 : 0x54, rom[k + 1] = k < ROM_MAX - 4 ? 0x02 : 0x70;
+}
+
+/* Prints the name of the work, its unit and how many units were done. */
+static int counted(const char *folder, size_t i, int which, int times)
+{
+    uint64_t units = 0;
+    piece = 20;
+    prepare(folder, i);
+    for (int k = 0; k < times; k++)
+        units += all[i].work.work(which);
+    printf("%llu %s|%s\n", (unsigned long long)units, all[i].work.what, all[i].work.unit);
+    return 0;
+}
+
 int main(int argc, char **argv)
 {
-    static const struct { const char *sample; struct work work; } all[] = {
-        {"sheet", {"run, sheet counter in a loop", "step", sheet}},
-        {"decimal", {"run, decimal counter up and down", "step", decimal}},
-        {"copy", {"run, copy loop", "step", copy}},
-        {"decimal", {"step, one call each, decimal counter", "step", one_by_one}},
-        {NULL, {"figure, 524,288 bytes of conditional branches", "place", branches}},
-    };
     int failed = 0;
+    if (argc == 5 && strtoul(argv[2], NULL, 10) < WORKS)
+        return counted(argv[1], strtoul(argv[2], NULL, 10), atoi(argv[3]), atoi(argv[4]));
     if (argc != 2) {
-        fprintf(stderr, "use: speed SAMPLES\n");
+        fprintf(stderr, "use: speed SAMPLES [WORK WHICH TIMES]\n");
         return 2;
     }
     printf("| %-45s | %8s | %8s | %-5s | %5s | %-14s |\n|---|---|---|---|---|---|\n", "what", "library", "plain C", "ns a", "ratio", "of the pairs");
-    for (size_t i = 0; i < sizeof all / sizeof *all; i++) {
-        if (all[i].sample) {
-            load(argv[1], all[i].sample);
-        } else {
-            rom_n = ROM_MAX;
-            for (size_t k = 0; k < ROM_MAX; k += 2)
-                rom[k] = k < ROM_MAX - 4 ? 0x47 : 0x54, rom[k + 1] = k < ROM_MAX - 4 ? 0x02 : 0x70;
-        }
+    for (size_t i = 0; i < WORKS; i++) {
+        prepare(argv[1], i);
         failed |= compare(&all[i].work);
     }
     return failed;

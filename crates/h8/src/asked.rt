@@ -3,7 +3,6 @@ use crate::ask;
 use crate::ask::Request;
 use crate::fault;
 use crate::fault::Got;
-use arith::Width;
 use asking::Kind;
 use lines::Given;
 use registers::Condition;
@@ -118,7 +117,9 @@ fn spoiled(s: Begun) -> Begun {
 }
 
 fn with_er(s: Begun, n: u64, v: u64) -> Begun {
-    let r = registers::with_part(Width::Long, s.regs, (n % 8) as u8, (v % 4294967296) as u32);
+    let mut r = s.regs;
+    let k = (n % 8) as usize;
+    r.er[k] = (v % 4294967296) as u32;
     Begun {
         regs: r,
         bad: s.bad,

@@ -1,24 +1,20 @@
-// MOV with memory, and the stack. PC is none of theirs.
-use arith::Moved;
+// MOV with memory, and the stack, where the registers lie. PC is none of theirs. Where one is refused, nothing is left written.
 use arith::Width;
-use codes::Place;
-use codes::Way;
 use memory::Board;
 use memory::Got;
 use memory::Put;
-use operate::Changes;
 use operate::Deed;
-use operate::Fresh;
-use registers::Registers;
+use registers::Condition;
 ghost use mathlib.Core.Path.{_≡_};
+ghost use Prim.Native.Nat.{_%_};
+ghost use lib.ListN.{getD, set};
 ghost use Rattle.arith.specs.Widths.{bitsOf, movedOf};
-ghost use Rattle.arith.specs.Logic.{extsOf};
+ghost use Rattle.registers.specs.declared.Registers.{Registers};
 ghost use Rattle.registers.specs.Condition.{withMoved};
-ghost use Rattle.registers.specs.Parts.{withCondition};
-ghost use Rattle.operate.specs.Results as Results;
-ghost use Rattle.operate.specs.MirrorChanges.{freshOf, changedOf, endedOf};
-ghost use Rattle.codes.specs.declared.Place.the-variants as Place;
-ghost use Rattle.moves.specs.Moves.{stepped, bytesOf, addressOf, stepOver, loadedOf, loadOf, storedOf, storeOf, pushOf, poppedOf};
+ghost use Rattle.codes.specs.declared.Place.the-variants.{Step, Abs24};
+ghost use Rattle.operate.specs.MirrorLent.{Does};
+ghost use Rattle.moves.specs.Moves.{bytesOf, loadOf, storeOf, pushOf, poppedOf};
+ghost use Rattle.moves.specs.MirrorMoves.{Leaves, LeavesBoth, keptOf, Restores};
 
 fn bytes(w: Width) -> u32
     ensures { λ n. ⌜ n ≡ bytesOf w ⌝ }
@@ -30,130 +26,135 @@ fn bytes(w: Width) -> u32
     }
 }
 
-fn extended(x: u16) -> u32
-    ensures { λ a. ⌜ a ≡ extsOf 32 x .value ⌝ }
+// The flags of a value that was moved.
+fn flagged(w: Width, x: u32, f: Condition) -> Condition
+    ensures { λ g. ⌜ g ≡ withMoved f (movedOf (bitsOf w) x) ⌝ }
 {
-    arith::logic::exts(Width::Long, x as u32).value
+    f.with_moved(arith::mov(w, x))
 }
 
-// A register and a signed displacement.
-fn displaced(e: u8, d: u16, r: Registers) -> u32
-    ensures { λ a. ⌜ a ≡ addressOf (Place.Disp e d) r ⌝ }
+// MOV from the address a.
+pub fn load(
+    w: Width,
+    a: u32,
+    d: u8,
+    er: &mut [u32; 8],
+    f: Condition,
+    b: Board,
+    rom: &[u8],
+    ram: &[u8],
+) -> Deed
+    ensures { λ e. ⌜ Leaves (λ (r : Registers). loadOf w (Abs24 a) d r b (now (rom .entry)) (now (ram .entry))) (now (er .entry)) (now (er .exit)) f e ⌝ }
 {
-    arith::sums::add(
-        Width::Long,
-        registers::part(Width::Long, r, e),
-        extended(d),
-        false,
-    ).value
+    match memory::read(w, b, rom, ram, a) {
+        Got::Value(x) => operate::did(operate::mov(w, er, d, x, f)),
+        Got::NotRead(x) => operate::refused(f, x),
+    }
 }
 
-fn address(p: Place, r: Registers) -> u32
-    ensures { λ a. ⌜ a ≡ addressOf p r ⌝ }
+// @ER+: the register is raised, and then the loaded part replaces its own, so the loaded part wins.
+pub fn pop(
+    w: Width,
+    e: u8,
+    d: u8,
+    er: &mut [u32; 8],
+    f: Condition,
+    b: Board,
+    rom: &[u8],
+    ram: &[u8],
+) -> Deed
+    ensures { λ q. ⌜ Leaves (λ (r : Registers). loadOf w (Step e) d r b (now (rom .entry)) (now (ram .entry))) (now (er .entry)) (now (er .exit)) f q ⌝ }
+{
+    match memory::read(w, b, rom, ram, registers::get(Width::Long, er, e)) {
+        Got::Value(x) => {
+            let g = operate::raise(er, e, bytes(w), f);
+            operate::did(operate::mov(w, er, d, x, g))
+        }
+        Got::NotRead(x) => operate::refused(f, x),
+    }
+}
+
+// What a write leaves of the condition byte: f where it was not made, else g.
+fn kept(p: Put, f: Condition, g: Condition) -> Deed
+    ensures { λ e. ⌜ e ≡ keptOf p f g ⌝ }
 {
     match p {
-        Place::At(e) => registers::part(Width::Long, r, e),
-        Place::Step(e) => registers::part(Width::Long, r, e),
-        Place::Disp(e, d) => displaced(e, d, r),
-        Place::Abs8(a) => 0xFFFF00 + a as u32,
-        Place::Abs16(a) => extended(a),
-        Place::Abs24(a) => a,
+        Put::Stored => operate::did(g),
+        Put::NotStored(x) => operate::refused(f, x),
     }
 }
 
-// @ER+ and @-ER.
-fn step_over(way: Way, w: Width, p: Place, r: Registers) -> Fresh
-    ensures { λ q. ⌜ freshOf r q ≡ stepOver way w p r ⌝ }
+// MOV to the address a.
+pub fn store(w: Width, a: u32, s: u8, er: &[u32; 8], f: Condition, b: Board, ram: &mut [u8]) -> Deed
+    ensures { λ e. ⌜ LeavesBoth (λ (r : Registers). storeOf w (Abs24 a) s r b (now (ram .entry))) (now (er .entry)) (now (er .entry)) f e (now (ram .exit)) ⌝ }
+{
+    let x = registers::get(w, er, s);
+    let p = memory::write(w, b, ram, a, x);
+    kept(p, f, flagged(w, x, f))
+}
+
+// A register as it is, to be put back.
+fn register(er: &[u32; 8], e: u8) -> u32
+    ensures { λ x. ⌜ x ≡ getD (now (er .entry)) (e % 8) 0 ⌝ }
+{
+    let k = (e % 8) as usize;
+    er[k]
+}
+
+fn put_back(er: &mut [u32; 8], e: u8, x: u32)
+    ensures { λ _. ⌜ now (er .exit) ≡ set (now (er .entry)) (e % 8) x ⌝ }
+{
+    let k = (e % 8) as usize;
+    er[k] = x;
+}
+
+// After a write through a register that was lowered first: where it was not made, the register is put back.
+fn restored(p: Put, e: u8, old: u32, er: &mut [u32; 8], f: Condition, g: Condition) -> Deed
+    ensures { λ d. ⌜ Restores p e old (now (er .entry)) (now (er .exit)) f g d ⌝ }
 {
     match p {
-        Place::At(_) => Fresh::Nothing,
-        Place::Step(e) => operate::carried(way, bytes(w), e, r),
-        Place::Disp(_, _) => Fresh::Nothing,
-        Place::Abs8(_) => Fresh::Nothing,
-        Place::Abs16(_) => Fresh::Nothing,
-        Place::Abs24(_) => Fresh::Nothing,
+        Put::Stored => operate::did(g),
+        Put::NotStored(x) => {
+            put_back(er, e, old);
+            operate::refused(f, x)
+        }
     }
 }
 
-// The part of digit d and the flags of a value that was moved there, after `first`.
-fn moved(first: Fresh, w: Width, d: u8, r: Registers, x: Moved) -> Changes
-    ensures { λ q. ⌜ changedOf r q ≡ Results.moved w d (freshOf r first) x ⌝ }
+// @-ER: the register is lowered first, and what is stored is the part as it then stands.
+pub fn push(
+    w: Width,
+    e: u8,
+    s: u8,
+    er: &mut [u32; 8],
+    f: Condition,
+    b: Board,
+    ram: &mut [u8],
+) -> Deed
+    ensures { λ d. ⌜ LeavesBoth (λ (r : Registers). storeOf w (Step e) s r b (now (ram .entry))) (now (er .entry)) (now (er .exit)) f d (now (ram .exit)) ⌝ }
 {
-    let f = r.condition;
-    let g = f.with_moved(x);
-    Changes {
-        first: first,
-        second: Fresh::Part(w, d, x.value),
-        condition: g,
-    }
+    let old = register(er, e);
+    let g = operate::lower(er, e, bytes(w), f);
+    let x = registers::get(w, er, s);
+    let a = registers::get(Width::Long, er, e);
+    let p = memory::write(w, b, ram, a, x);
+    restored(p, e, old, er, f, flagged(w, x, g))
 }
 
-fn loaded(g: Got, w: Width, d: u8, r: Registers, raised: Fresh) -> Deed
-    ensures { λ e. ⌜ endedOf r e ≡ loadedOf g w d r (freshOf r raised) ⌝ }
+// BSR and JSR: the address of the next instruction.
+pub fn call(next: u32, er: &mut [u32; 8], f: Condition, b: Board, ram: &mut [u8]) -> Deed
+    ensures { λ d. ⌜ LeavesBoth (λ (r : Registers). pushOf next r b (now (ram .entry))) (now (er .entry)) (now (er .exit)) f d (now (ram .exit)) ⌝ }
 {
-    match g {
-        Got::Value(x) => operate::did(moved(raised, w, d, r, arith::mov(w, x))),
-        Got::NotRead(f) => operate::refused(r, f),
-    }
-}
-
-// MOV from memory.
-pub fn load(w: Width, p: Place, d: u8, r: Registers, b: Board, rom: &[u8], ram: &[u8]) -> Deed
-    ensures { λ e. ⌜ endedOf r e ≡ loadOf w p d r b (now (rom .entry)) (now (ram .entry)) ⌝ }
-{
-    let a = address(p, r);
-    let g = memory::read(w, b, rom, ram, a);
-    loaded(g, w, d, r, step_over(Way::Up, w, p, r))
-}
-
-fn stored(p: Put, r: Registers, c: Changes) -> Deed
-    ensures { λ e. ⌜ endedOf r e ≡ storedOf p r (changedOf r c) ⌝ }
-{
-    match p {
-        Put::Stored => operate::did(c),
-        Put::NotStored(f) => operate::refused(r, f),
-    }
-}
-
-// The flags of a value that was moved, after `first`.
-fn flagged(w: Width, x: u32, first: Fresh, r: Registers) -> Changes
-    ensures { λ e. ⌜ changedOf r e ≡ withCondition (freshOf r first) (withMoved (freshOf r first .condition) (movedOf (bitsOf w) x)) ⌝ }
-{
-    let f = r.condition;
-    let g = f.with_moved(arith::mov(w, x));
-    Changes {
-        first: first,
-        second: Fresh::Nothing,
-        condition: g,
-    }
-}
-
-// MOV to memory.
-pub fn store(w: Width, p: Place, s: u8, r: Registers, b: Board, ram: &mut [u8]) -> Deed
-    ensures { λ e. ⌜ stepped (endedOf r e) (now (ram .exit)) ≡ storeOf w p s r b (now (ram .entry)) ⌝ }
-{
-    let first = step_over(Way::Down, w, p, r);
-    let q = operate::freshened(r, first);
-    let x = registers::part(w, q, s);
-    let a = address(p, q);
-    let put = memory::write(w, b, ram, a, x);
-    stored(put, r, flagged(w, x, first, r))
-}
-
-// BSR and JSR.
-pub fn push(next: u32, r: Registers, b: Board, ram: &mut [u8]) -> Deed
-    ensures { λ e. ⌜ stepped (endedOf r e) (now (ram .exit)) ≡ pushOf next r b (now (ram .entry)) ⌝ }
-{
-    let lowered = operate::carried(Way::Down, 4, 7, r);
-    let q = operate::freshened(r, lowered);
-    let a = registers::part(Width::Long, q, 7);
-    let put = memory::write(Width::Long, b, ram, a, next);
-    stored(put, r, operate::only(lowered, r))
+    let old = register(er, 7);
+    let g = operate::lower(er, 7, 4, f);
+    let a = registers::get(Width::Long, er, 7);
+    let p = memory::write(Width::Long, b, ram, a, next);
+    restored(p, 7, old, er, f, g)
 }
 
 // RTS.
-pub fn popped(r: Registers) -> Changes
-    ensures { λ q. ⌜ changedOf r q ≡ poppedOf r ⌝ }
+pub fn popped(er: &mut [u32; 8], f: Condition) -> Condition
+    ensures { λ g. ⌜ Does poppedOf (now (er .entry)) (now (er .exit)) f g ⌝ }
 {
-    operate::only(operate::carried(Way::Up, 4, 7, r), r)
+    operate::raise(er, 7, 4, f)
 }

@@ -1,76 +1,61 @@
-// MULXU, MULXS, DIVXU and DIVXS in the registers. PC is none of theirs.
-use arith::Moved;
-use codes::Sign;
-use operate::Changes;
+// MULXU, MULXS, DIVXU and DIVXS where the registers lie. PC is none of theirs.
 use operate::Deed;
 use products::Division;
 use products::Half;
 use refusal::Refusal;
-use registers::Registers;
+use registers::Condition;
 ghost use mathlib.Core.Path.{_≡_};
 ghost use Rattle.codes.specs.declared.Sign.the-variants.{Unsigned, Signed};
-ghost use Rattle.operate.specs.MirrorChanges.{changedOf, endedOf};
-ghost use Rattle.multiply.specs.Multiply.{putOf, multiplyOf, quotientsOf, dividedOf, divideOf};
+ghost use Rattle.registers.specs.Lent.{lent};
+ghost use Rattle.operate.specs.MirrorLent.{Does, effectIn};
+ghost use Rattle.multiply.specs.Multiply.{multiplyOf, dividedOf, divideOf};
 
-// The destination gets the value, and N and Z are those found.
-fn put(h: Half, d: u8, r: Registers, x: Moved) -> Changes
-    ensures { λ q. ⌜ changedOf r q ≡ putOf h d r x ⌝ }
-{
-    let f = r.condition;
-    operate::part(products::product_width(h), d, x.value, f.with_product(x))
-}
-
-fn unsigned(h: Half, s: u8, d: u8, r: Registers) -> Changes
-    ensures { λ q. ⌜ changedOf r q ≡ multiplyOf Unsigned h s d r ⌝ }
+pub fn mulxu(h: Half, er: &mut [u32; 8], s: u8, d: u8, f: Condition) -> Condition
+    ensures { λ g. ⌜ Does (multiplyOf Unsigned h s d) (now (er .entry)) (now (er .exit)) f g ⌝ }
 {
     let w = products::product_width(h);
-    let f = r.condition;
-    let a = registers::part(w, r, d);
-    let b = registers::part(products::factor_width(h), r, s);
-    operate::part(w, d, products::mulxu(h, a, b), f)
+    let a = registers::get(w, er, d);
+    let b = registers::get(products::factor_width(h), er, s);
+    registers::put(w, er, d, products::mulxu(h, a, b));
+    f
 }
 
-fn signed(h: Half, s: u8, d: u8, r: Registers) -> Changes
-    ensures { λ q. ⌜ changedOf r q ≡ multiplyOf Signed h s d r ⌝ }
+pub fn mulxs(h: Half, er: &mut [u32; 8], s: u8, d: u8, f: Condition) -> Condition
+    ensures { λ g. ⌜ Does (multiplyOf Signed h s d) (now (er .entry)) (now (er .exit)) f g ⌝ }
 {
-    let a = registers::part(products::product_width(h), r, d);
-    let b = registers::part(products::factor_width(h), r, s);
-    put(h, d, r, products::mulxs(h, a, b))
+    let w = products::product_width(h);
+    let a = registers::get(w, er, d);
+    let b = registers::get(products::factor_width(h), er, s);
+    let x = products::mulxs(h, a, b);
+    registers::put(w, er, d, x.value);
+    f.with_product(x)
 }
 
-// MULXU and MULXS.
-pub fn multiply(sign: Sign, h: Half, s: u8, d: u8, r: Registers) -> Changes
-    ensures { λ q. ⌜ changedOf r q ≡ multiplyOf sign h s d r ⌝ }
-{
-    match sign {
-        Sign::Unsigned => unsigned(h, s, d, r),
-        Sign::Signed => signed(h, s, d, r),
-    }
-}
-
-fn quotients(sign: Sign, h: Half, s: u8, d: u8, r: Registers) -> Division
-    ensures { λ q. ⌜ q ≡ quotientsOf sign h s d r ⌝ }
-{
-    let a = registers::part(products::product_width(h), r, d);
-    let b = registers::part(products::factor_width(h), r, s);
-    match sign {
-        Sign::Unsigned => products::divxu(h, a, b),
-        Sign::Signed => products::divxs(h, a, b),
-    }
-}
-
-fn divided(q: Division, h: Half, d: u8, r: Registers) -> Deed
-    ensures { λ e. ⌜ endedOf r e ≡ dividedOf q h d r ⌝ }
+// The destination gets quotient and remainder; where there are none, refusal 14 at the instruction.
+fn divided(q: Division, h: Half, er: &mut [u32; 8], d: u8, pc: u32, f: Condition) -> Deed
+    ensures { λ e. ⌜ effectIn (now (er .exit)) pc e ≡ dividedOf q h d (lent (now (er .entry)) pc f) ⌝ }
 {
     match q {
-        Division::Divided(x) => operate::did(put(h, d, r, x)),
-        Division::Fails => operate::refused(r, Refusal::DivideFails(r.pc)),
+        Division::Divided(x) => {
+            registers::put(products::product_width(h), er, d, x.value);
+            operate::did(f.with_product(x))
+        }
+        Division::Fails => operate::refused(f, Refusal::DivideFails(pc)),
     }
 }
 
-// DIVXU and DIVXS.
-pub fn divide(sign: Sign, h: Half, s: u8, d: u8, r: Registers) -> Deed
-    ensures { λ e. ⌜ endedOf r e ≡ divideOf sign h s d r ⌝ }
+pub fn divxu(h: Half, er: &mut [u32; 8], s: u8, d: u8, pc: u32, f: Condition) -> Deed
+    ensures { λ e. ⌜ effectIn (now (er .exit)) pc e ≡ divideOf Unsigned h s d (lent (now (er .entry)) pc f) ⌝ }
 {
-    divided(quotients(sign, h, s, d, r), h, d, r)
+    let a = registers::get(products::product_width(h), er, d);
+    let b = registers::get(products::factor_width(h), er, s);
+    divided(products::divxu(h, a, b), h, er, d, pc, f)
+}
+
+pub fn divxs(h: Half, er: &mut [u32; 8], s: u8, d: u8, pc: u32, f: Condition) -> Deed
+    ensures { λ e. ⌜ effectIn (now (er .exit)) pc e ≡ divideOf Signed h s d (lent (now (er .entry)) pc f) ⌝ }
+{
+    let a = registers::get(products::product_width(h), er, d);
+    let b = registers::get(products::factor_width(h), er, s);
+    divided(products::divxs(h, a, b), h, er, d, pc, f)
 }

@@ -1,3 +1,3 @@
 pub mod Results
-pub mod MirrorChanges
 pub mod Operate
+pub mod MirrorLent

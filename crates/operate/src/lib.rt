@@ -1,181 +1,259 @@
-// What the instructions without memory do to the registers. PC is none of theirs.
+// What the instructions without memory do, where the registers lie: a function writes them and answers the condition byte. PC is none of theirs.
 use arith::Adjust;
-use arith::Counted;
-use arith::Moved;
-use arith::Shifted;
-use arith::Sum;
 use arith::Width;
-use codes::By;
-use codes::Change;
-use codes::Op;
-use codes::Single;
-use codes::Source;
-use codes::Turn;
-use codes::Way;
 use refusal::Outcome;
 use refusal::Refusal;
 use registers::Condition;
-use registers::Registers;
 ghost use mathlib.Core.Path.{_≡_};
 ghost use Prim.Native.Nat.{_%_};
 ghost use Rattle.arith.specs.Widths.{bitsOf};
+ghost use Rattle.arith.specs.Sums.{incOf, decOf};
+ghost use Rattle.refusal.specs.declared.Outcome.the-variants.{Done, Refused};
 ghost use Rattle.registers.specs.Condition.{conditionOf};
-ghost use Rattle.refusal.specs.declared.Outcome.the-variants.{Done};
-ghost use Rattle.operate.specs.Results as Results;
-ghost use Rattle.operate.specs.MirrorChanges.{onePart, flagsOnly, deed, freshEr, freshOf, changedOf, endedOf};
-ghost use Rattle.operate.specs.Operate as Operate;
-ghost use Rattle.operate.specs.Operate.{stcOf, ldcOf, ccrOf, sourceOf, operatedOf, aluOf, byOf, incDecOf, carriedOf, addsSubsOf, rowOf, addedOf, adjustedOf, decimalOf, turnedOf, shiftOf, unaryOf};
+ghost use Rattle.registers.specs.Parts.{partOf};
+ghost use Rattle.registers.specs.Lent.{lent};
+ghost use Rattle.codes.specs.declared.Op.the-variants.{Add, Sub, Cmp, Mov, Addx, Subx, Or, Xor, And};
+ghost use Rattle.codes.specs.declared.Way.the-variants.{Up, Down};
+ghost use Rattle.codes.specs.declared.Turn.the-variants.{Shll, Shlr, Rotxl, Rotxr, Shal, Shar, Rotl, Rotr};
+ghost use Rattle.codes.specs.declared.Single.the-variants.{Not, Neg, Extu, Exts};
+ghost use Rattle.codes.specs.declared.Change.the-variants.{Orc, Xorc, Andc, Ldc};
+ghost use Rattle.operate.specs.Results.{counted};
+ghost use Rattle.operate.specs.Operate.{stcOf, ldcOf, ccrOf, carriedOf, adjustedOf, decimalOf, shiftOf, unaryOf};
+ghost use Rattle.operate.specs.MirrorLent.{Does, Operates, Marks, Replaces, Fills, deed, effectIn};
 
-// A part of a register that gets a new value, or none.
-pub enum Fresh {
-    Nothing,
-    Part(Width, u8, u32),
-}
-
-// What an instruction changes: a part, then another, then the condition byte. It goes from function to function in place of the
-// registers, so that these are written once and where they lie.
-pub struct Changes {
-    pub first: Fresh,
-    pub second: Fresh,
-    pub condition: Condition,
-}
-
-// What an instruction changes, and how it went.
+// The condition byte after an instruction, and how it went. A refused one has written nothing.
 pub struct Deed {
-    pub changes: Changes,
+    pub condition: Condition,
     pub outcome: Outcome,
 }
 
-pub fn part(w: Width, d: u8, x: u32, f: Condition) -> Changes
-    ensures { λ q. ⌜ q ≡ onePart w d x f ⌝ }
-{
-    Changes {
-        first: Fresh::Nothing,
-        second: Fresh::Part(w, d, x),
-        condition: f,
-    }
-}
-
-pub fn flags(f: Condition) -> Changes
-    ensures { λ q. ⌜ q ≡ flagsOnly f ⌝ }
-{
-    Changes {
-        first: Fresh::Nothing,
-        second: Fresh::Nothing,
-        condition: f,
-    }
-}
-
-// Writes a part where the registers lie.
-pub fn write(er: &mut [u32], x: Fresh)
-    ensures { λ _. ⌜ now (er .exit) ≡ freshEr (now (er .entry)) x ⌝ }
-{
-    match x {
-        Fresh::Nothing => {}
-        Fresh::Part(w, d, v) => {
-            let k = (d % 8) as usize;
-            if k < er.len() {
-                let old = er[k];
-                er[k] = registers::insert(w, d, old, v);
-            }
-        }
-    }
-}
-
-// The registers with a part written.
-pub fn freshened(r: Registers, x: Fresh) -> Registers
-    ensures { λ q. ⌜ q ≡ freshOf r x ⌝ }
-{
-    match x {
-        Fresh::Nothing => r,
-        Fresh::Part(w, d, v) => registers::with_part(w, r, d, v),
-    }
-}
-
-// The registers after all changes.
-pub fn applied(r: Registers, c: Changes) -> Registers
-    ensures { λ q. ⌜ q ≡ changedOf r c ⌝ }
-{
-    let first = c.first;
-    let second = c.second;
-    registers::with_condition(freshened(freshened(r, first), second), c.condition)
-}
-
-// No change at all.
-pub fn nothing(r: Registers) -> Changes
-    ensures { λ q. ⌜ changedOf r q ≡ r ⌝ }
-{
-    let f = r.condition;
-    flags(f)
-}
-
-pub fn did(c: Changes) -> Deed
-    ensures { λ e. ⌜ e ≡ deed c Done ⌝ }
+pub fn did(f: Condition) -> Deed
+    ensures { λ e. ⌜ e ≡ deed f Done ⌝ }
 {
     Deed {
-        changes: c,
+        condition: f,
         outcome: Outcome::Done,
     }
 }
 
-pub fn refused(r: Registers, f: Refusal) -> Deed
-    ensures { λ e. ⌜ endedOf r e ≡ Results.refused r f ⌝ }
+pub fn refused(f: Condition, x: Refusal) -> Deed
+    ensures { λ e. ⌜ e ≡ deed f (Refused x) ⌝ }
 {
-    let c = nothing(r);
     Deed {
-        changes: c,
-        outcome: Outcome::Refused(f),
+        condition: f,
+        outcome: Outcome::Refused(x),
     }
 }
 
-fn summed(w: Width, d: u8, r: Registers, x: Sum) -> Changes
-    ensures { λ q. ⌜ changedOf r q ≡ Results.summed w d r x ⌝ }
+// ADD to AND: s is the source, d the digit of the destination.
+pub fn add(w: Width, er: &mut [u32; 8], d: u8, s: u32, f: Condition) -> Condition
+    ensures { λ g. ⌜ Operates Add w s d (now (er .entry)) (now (er .exit)) f g ⌝ }
 {
-    let f = r.condition;
-    part(w, d, x.value, f.with_sum(x))
+    let x = arith::sums::add(w, registers::get(w, er, d), s, false);
+    registers::put(w, er, d, x.value);
+    f.with_sum(x)
 }
 
-fn extended(w: Width, d: u8, r: Registers, x: Sum) -> Changes
-    ensures { λ q. ⌜ changedOf r q ≡ Results.extended w d r x ⌝ }
+pub fn sub(w: Width, er: &mut [u32; 8], d: u8, s: u32, f: Condition) -> Condition
+    ensures { λ g. ⌜ Operates Sub w s d (now (er .entry)) (now (er .exit)) f g ⌝ }
 {
-    let f = r.condition;
-    part(w, d, x.value, f.with_extended(x))
+    let x = arith::sums::sub(w, registers::get(w, er, d), s, false);
+    registers::put(w, er, d, x.value);
+    f.with_sum(x)
 }
 
-fn counted(w: Width, d: u8, r: Registers, x: Counted) -> Changes
-    ensures { λ q. ⌜ changedOf r q ≡ Results.counted w d r x ⌝ }
+pub fn cmp(w: Width, er: &[u32; 8], d: u8, s: u32, f: Condition) -> Condition
+    ensures { λ g. ⌜ Operates Cmp w s d (now (er .entry)) (now (er .entry)) f g ⌝ }
 {
-    let f = r.condition;
-    part(w, d, x.value, f.with_counted(x))
+    f.with_sum(arith::sums::sub(w, registers::get(w, er, d), s, false))
 }
 
-fn shifted(w: Width, d: u8, r: Registers, x: Shifted) -> Changes
-    ensures { λ q. ⌜ changedOf r q ≡ Results.shifted w d r x ⌝ }
+pub fn mov(w: Width, er: &mut [u32; 8], d: u8, s: u32, f: Condition) -> Condition
+    ensures { λ g. ⌜ Operates Mov w s d (now (er .entry)) (now (er .exit)) f g ⌝ }
 {
-    let f = r.condition;
-    part(w, d, x.value, f.with_shifted(x))
+    let x = arith::mov(w, s);
+    registers::put(w, er, d, x.value);
+    f.with_moved(x)
 }
 
-fn moved(w: Width, d: u8, r: Registers, x: Moved) -> Changes
-    ensures { λ q. ⌜ changedOf r q ≡ Results.moved w d r x ⌝ }
+pub fn addx(w: Width, er: &mut [u32; 8], d: u8, s: u32, f: Condition) -> Condition
+    ensures { λ g. ⌜ Operates Addx w s d (now (er .entry)) (now (er .exit)) f g ⌝ }
 {
-    let f = r.condition;
-    part(w, d, x.value, f.with_moved(x))
+    let x = arith::sums::add(w, registers::get(w, er, d), s, f.c);
+    registers::put(w, er, d, x.value);
+    f.with_extended(x)
 }
 
-fn compared(r: Registers, x: Sum) -> Changes
-    ensures { λ q. ⌜ changedOf r q ≡ Results.compared r x ⌝ }
+pub fn subx(w: Width, er: &mut [u32; 8], d: u8, s: u32, f: Condition) -> Condition
+    ensures { λ g. ⌜ Operates Subx w s d (now (er .entry)) (now (er .exit)) f g ⌝ }
 {
-    let f = r.condition;
-    flags(f.with_sum(x))
+    let x = arith::sums::sub(w, registers::get(w, er, d), s, f.c);
+    registers::put(w, er, d, x.value);
+    f.with_extended(x)
 }
 
-pub fn stc(d: u8, r: Registers) -> Changes
-    ensures { λ q. ⌜ changedOf r q ≡ stcOf d r ⌝ }
+pub fn or(w: Width, er: &mut [u32; 8], d: u8, s: u32, f: Condition) -> Condition
+    ensures { λ g. ⌜ Operates Or w s d (now (er .entry)) (now (er .exit)) f g ⌝ }
 {
-    let f = r.condition;
-    let b = f.byte();
-    part(Width::Byte, d, b as u32, f)
+    let x = arith::logic::or(w, registers::get(w, er, d), s);
+    registers::put(w, er, d, x.value);
+    f.with_moved(x)
+}
+
+pub fn xor(w: Width, er: &mut [u32; 8], d: u8, s: u32, f: Condition) -> Condition
+    ensures { λ g. ⌜ Operates Xor w s d (now (er .entry)) (now (er .exit)) f g ⌝ }
+{
+    let x = arith::logic::xor(w, registers::get(w, er, d), s);
+    registers::put(w, er, d, x.value);
+    f.with_moved(x)
+}
+
+pub fn and(w: Width, er: &mut [u32; 8], d: u8, s: u32, f: Condition) -> Condition
+    ensures { λ g. ⌜ Operates And w s d (now (er .entry)) (now (er .exit)) f g ⌝ }
+{
+    let x = arith::logic::and(w, registers::get(w, er, d), s);
+    registers::put(w, er, d, x.value);
+    f.with_moved(x)
+}
+
+// INC and DEC by n.
+pub fn inc(w: Width, er: &mut [u32; 8], d: u8, n: u32, f: Condition) -> Condition
+    ensures { λ g. ⌜ Does (λ r. counted w d r (incOf (bitsOf w) (partOf w r d) n)) (now (er .entry)) (now (er .exit)) f g ⌝ }
+{
+    let x = arith::sums::inc(w, registers::get(w, er, d), n);
+    registers::put(w, er, d, x.value);
+    f.with_counted(x)
+}
+
+pub fn dec(w: Width, er: &mut [u32; 8], d: u8, n: u32, f: Condition) -> Condition
+    ensures { λ g. ⌜ Does (λ r. counted w d r (decOf (bitsOf w) (partOf w r d) n)) (now (er .entry)) (now (er .exit)) f g ⌝ }
+{
+    let x = arith::sums::dec(w, registers::get(w, er, d), n);
+    registers::put(w, er, d, x.value);
+    f.with_counted(x)
+}
+
+// ADDS and SUBS, @ER+ and @-ER, and the stack: a register of 32 bits, higher or lower by n; no flag changes.
+pub fn raise(er: &mut [u32; 8], e: u8, n: u32, f: Condition) -> Condition
+    ensures { λ g. ⌜ Does (carriedOf Up n e) (now (er .entry)) (now (er .exit)) f g ⌝ }
+{
+    let x = registers::get(Width::Long, er, e);
+    registers::put(Width::Long, er, e, std::num::wrapping_add_u32(x, n));
+    f
+}
+
+pub fn lower(er: &mut [u32; 8], e: u8, n: u32, f: Condition) -> Condition
+    ensures { λ g. ⌜ Does (carriedOf Down n e) (now (er .entry)) (now (er .exit)) f g ⌝ }
+{
+    let x = registers::get(Width::Long, er, e);
+    registers::put(Width::Long, er, e, std::num::wrapping_sub_u32(x, n));
+    f
+}
+
+// Shifts and rotates.
+pub fn shll(w: Width, er: &mut [u32; 8], d: u8, f: Condition) -> Condition
+    ensures { λ g. ⌜ Does (shiftOf Shll w d) (now (er .entry)) (now (er .exit)) f g ⌝ }
+{
+    let x = arith::shifts::shll(w, registers::get(w, er, d));
+    registers::put(w, er, d, x.value);
+    f.with_shifted(x)
+}
+
+pub fn shlr(w: Width, er: &mut [u32; 8], d: u8, f: Condition) -> Condition
+    ensures { λ g. ⌜ Does (shiftOf Shlr w d) (now (er .entry)) (now (er .exit)) f g ⌝ }
+{
+    let x = arith::shifts::shlr(w, registers::get(w, er, d));
+    registers::put(w, er, d, x.value);
+    f.with_shifted(x)
+}
+
+pub fn rotxl(w: Width, er: &mut [u32; 8], d: u8, f: Condition) -> Condition
+    ensures { λ g. ⌜ Does (shiftOf Rotxl w d) (now (er .entry)) (now (er .exit)) f g ⌝ }
+{
+    let x = arith::shifts::rotxl(w, registers::get(w, er, d), f.c);
+    registers::put(w, er, d, x.value);
+    f.with_shifted(x)
+}
+
+pub fn rotxr(w: Width, er: &mut [u32; 8], d: u8, f: Condition) -> Condition
+    ensures { λ g. ⌜ Does (shiftOf Rotxr w d) (now (er .entry)) (now (er .exit)) f g ⌝ }
+{
+    let x = arith::shifts::rotxr(w, registers::get(w, er, d), f.c);
+    registers::put(w, er, d, x.value);
+    f.with_shifted(x)
+}
+
+pub fn shal(w: Width, er: &mut [u32; 8], d: u8, f: Condition) -> Condition
+    ensures { λ g. ⌜ Does (shiftOf Shal w d) (now (er .entry)) (now (er .exit)) f g ⌝ }
+{
+    let x = arith::shifts::shal(w, registers::get(w, er, d));
+    registers::put(w, er, d, x.value);
+    f.with_shifted(x)
+}
+
+pub fn shar(w: Width, er: &mut [u32; 8], d: u8, f: Condition) -> Condition
+    ensures { λ g. ⌜ Does (shiftOf Shar w d) (now (er .entry)) (now (er .exit)) f g ⌝ }
+{
+    let x = arith::shifts::shar(w, registers::get(w, er, d));
+    registers::put(w, er, d, x.value);
+    f.with_shifted(x)
+}
+
+pub fn rotl(w: Width, er: &mut [u32; 8], d: u8, f: Condition) -> Condition
+    ensures { λ g. ⌜ Does (shiftOf Rotl w d) (now (er .entry)) (now (er .exit)) f g ⌝ }
+{
+    let x = arith::shifts::rotl(w, registers::get(w, er, d));
+    registers::put(w, er, d, x.value);
+    f.with_shifted(x)
+}
+
+pub fn rotr(w: Width, er: &mut [u32; 8], d: u8, f: Condition) -> Condition
+    ensures { λ g. ⌜ Does (shiftOf Rotr w d) (now (er .entry)) (now (er .exit)) f g ⌝ }
+{
+    let x = arith::shifts::rotr(w, registers::get(w, er, d));
+    registers::put(w, er, d, x.value);
+    f.with_shifted(x)
+}
+
+// NOT, NEG, EXTU and EXTS.
+pub fn not(w: Width, er: &mut [u32; 8], d: u8, f: Condition) -> Condition
+    ensures { λ g. ⌜ Does (unaryOf Not w d) (now (er .entry)) (now (er .exit)) f g ⌝ }
+{
+    let x = arith::logic::not(w, registers::get(w, er, d));
+    registers::put(w, er, d, x.value);
+    f.with_moved(x)
+}
+
+pub fn neg(w: Width, er: &mut [u32; 8], d: u8, f: Condition) -> Condition
+    ensures { λ g. ⌜ Does (unaryOf Neg w d) (now (er .entry)) (now (er .exit)) f g ⌝ }
+{
+    let x = arith::sums::neg(w, registers::get(w, er, d));
+    registers::put(w, er, d, x.value);
+    f.with_sum(x)
+}
+
+pub fn extu(w: Width, er: &mut [u32; 8], d: u8, f: Condition) -> Condition
+    ensures { λ g. ⌜ Does (unaryOf Extu w d) (now (er .entry)) (now (er .exit)) f g ⌝ }
+{
+    let x = arith::logic::extu(w, registers::get(w, er, d));
+    registers::put(w, er, d, x.value);
+    f.with_moved(x)
+}
+
+pub fn exts(w: Width, er: &mut [u32; 8], d: u8, f: Condition) -> Condition
+    ensures { λ g. ⌜ Does (unaryOf Exts w d) (now (er .entry)) (now (er .exit)) f g ⌝ }
+{
+    let x = arith::logic::exts(w, registers::get(w, er, d));
+    registers::put(w, er, d, x.value);
+    f.with_moved(x)
+}
+
+// STC: no flag changes.
+pub fn stc(er: &mut [u32; 8], d: u8, f: Condition) -> Condition
+    ensures { λ g. ⌜ Does (stcOf d) (now (er .entry)) (now (er .exit)) f g ⌝ }
+{
+    registers::put(Width::Byte, er, d, f.byte() as u32);
+    f
 }
 
 // The condition byte whose bits are the low ones of a number.
@@ -185,194 +263,63 @@ fn condition(x: u32) -> Condition
     Condition::from_byte((x % 256) as u8)
 }
 
-pub fn ldc(s: u8, r: Registers) -> Changes
-    ensures { λ q. ⌜ changedOf r q ≡ ldcOf s r ⌝ }
+// LDC from a byte register: all eight bits.
+pub fn ldc_reg(er: &[u32; 8], s: u8) -> Condition
+    ensures { λ g. ⌜ Replaces (ldcOf s) (now (er .entry)) g ⌝ }
 {
-    flags(condition(registers::part(Width::Byte, r, s)))
+    condition(registers::get(Width::Byte, er, s))
 }
 
-fn changed(change: Change, b: u32, v: u32) -> u32
-    ensures { λ q. ⌜ q ≡ Operate.changed change b v ⌝ }
+// ORC, XORC, ANDC and LDC with the number v of the code.
+pub fn orc(v: u32, f: Condition) -> Condition
+    ensures { λ g. ⌜ Marks (ccrOf Orc v) f g ⌝ }
 {
-    match change {
-        Change::Orc => arith::logic::or(Width::Byte, b, v).value,
-        Change::Xorc => arith::logic::xor(Width::Byte, b, v).value,
-        Change::Andc => arith::logic::and(Width::Byte, b, v).value,
-        Change::Ldc => arith::mov(Width::Byte, v).value,
-    }
+    condition(arith::logic::or(Width::Byte, f.byte() as u32, v).value)
 }
 
-pub fn ccr(change: Change, v: u8, r: Registers) -> Changes
-    ensures { λ q. ⌜ changedOf r q ≡ ccrOf change v r ⌝ }
+pub fn xorc(v: u32, f: Condition) -> Condition
+    ensures { λ g. ⌜ Marks (ccrOf Xorc v) f g ⌝ }
 {
-    let f = r.condition;
-    let b = f.byte();
-    flags(condition(changed(change, b as u32, v as u32)))
+    condition(arith::logic::xor(Width::Byte, f.byte() as u32, v).value)
 }
 
-fn source(w: Width, r: Registers, s: Source) -> u32
-    ensures { λ q. ⌜ q ≡ sourceOf w r s ⌝ }
+pub fn andc(v: u32, f: Condition) -> Condition
+    ensures { λ g. ⌜ Marks (ccrOf Andc v) f g ⌝ }
 {
-    match s {
-        Source::Reg(d) => registers::part(w, r, d),
-        Source::Imm(v) => v,
-    }
+    condition(arith::logic::and(Width::Byte, f.byte() as u32, v).value)
 }
 
-// a is the destination before, s the source.
-fn operated(op: Op, w: Width, a: u32, s: u32, d: u8, r: Registers) -> Changes
-    ensures { λ q. ⌜ changedOf r q ≡ operatedOf op w a s d r ⌝ }
+pub fn ldc(v: u32) -> Condition
+    ensures { λ g. ⌜ Fills (ccrOf Ldc v) g ⌝ }
 {
-    let f = r.condition;
-    match op {
-        Op::Add => summed(w, d, r, arith::sums::add(w, a, s, false)),
-        Op::Sub => summed(w, d, r, arith::sums::sub(w, a, s, false)),
-        Op::Cmp => compared(r, arith::sums::sub(w, a, s, false)),
-        Op::Mov => moved(w, d, r, arith::mov(w, s)),
-        Op::Addx => extended(w, d, r, arith::sums::add(w, a, s, f.c)),
-        Op::Subx => extended(w, d, r, arith::sums::sub(w, a, s, f.c)),
-        Op::Or => moved(w, d, r, arith::logic::or(w, a, s)),
-        Op::Xor => moved(w, d, r, arith::logic::xor(w, a, s)),
-        Op::And => moved(w, d, r, arith::logic::and(w, a, s)),
-    }
+    condition(arith::mov(Width::Byte, v).value)
 }
 
-// ADD to AND.
-pub fn alu(op: Op, w: Width, s: Source, d: u8, r: Registers) -> Changes
-    ensures { λ q. ⌜ changedOf r q ≡ aluOf op w s d r ⌝ }
-{
-    operated(op, w, registers::part(w, r, d), source(w, r, s), d, r)
-}
-
-fn amount(by: By) -> u32
-    ensures { λ q. ⌜ q ≡ byOf by ⌝ }
-{
-    match by {
-        By::One => 1,
-        By::Two => 2,
-        By::Four => 4,
-    }
-}
-
-// INC and DEC.
-pub fn inc_dec(way: Way, w: Width, by: By, d: u8, r: Registers) -> Changes
-    ensures { λ q. ⌜ changedOf r q ≡ incDecOf way w by d r ⌝ }
-{
-    let x = registers::part(w, r, d);
-    let n = amount(by);
-    match way {
-        Way::Up => counted(w, d, r, arith::sums::inc(w, x, n)),
-        Way::Down => counted(w, d, r, arith::sums::dec(w, x, n)),
-    }
-}
-
-// A register of 32 bits, higher or lower by n.
-pub fn carried(way: Way, n: u32, e: u8, r: Registers) -> Fresh
-    ensures { λ q. ⌜ freshOf r q ≡ carriedOf way n e r ⌝ }
-{
-    let x = registers::part(Width::Long, r, e);
-    match way {
-        Way::Up => Fresh::Part(
-            Width::Long,
-            e,
-            arith::sums::add(Width::Long, x, n, false).value,
-        ),
-        Way::Down => Fresh::Part(
-            Width::Long,
-            e,
-            arith::sums::sub(Width::Long, x, n, false).value,
-        ),
-    }
-}
-
-// One part, and no flags.
-pub fn only(x: Fresh, r: Registers) -> Changes
-    ensures { λ q. ⌜ changedOf r q ≡ freshOf r x ⌝ }
-{
-    let f = r.condition;
-    Changes {
-        first: Fresh::Nothing,
-        second: x,
-        condition: f,
-    }
-}
-
-// ADDS and SUBS.
-pub fn adds_subs(way: Way, by: By, e: u8, r: Registers) -> Changes
-    ensures { λ q. ⌜ changedOf r q ≡ addsSubsOf way by e r ⌝ }
-{
-    only(carried(way, amount(by), e, r), r)
-}
-
-fn row(way: Way, r: Registers, x: u32) -> Adjust
-    ensures { λ q. ⌜ q ≡ rowOf way r x ⌝ }
-{
-    let f = r.condition;
-    match way {
-        Way::Up => arith::decimal::daa(f.c, f.h, x),
-        Way::Down => arith::decimal::das(f.c, f.h, x),
-    }
-}
-
-// The row's value was found.
-fn added(v: u8, c: bool, x: u32, d: u8, r: Registers) -> Changes
-    ensures { λ q. ⌜ changedOf r q ≡ addedOf v c x d r ⌝ }
-{
-    let y = arith::mov(Width::Byte, x % 256 + v as u32);
-    let f = r.condition;
-    part(Width::Byte, d, y.value, f.with_adjusted(y, c))
-}
-
-fn adjusted(a: Adjust, x: u32, d: u8, r: Registers) -> Deed
-    ensures { λ e. ⌜ endedOf r e ≡ adjustedOf a x d r ⌝ }
+// The row's value is added; where no row fits, refusal 7 at the instruction.
+fn adjusted(a: Adjust, x: u32, er: &mut [u32; 8], d: u8, pc: u32, f: Condition) -> Deed
+    ensures { λ e. ⌜ effectIn (now (er .exit)) pc e ≡ adjustedOf a x d (lent (now (er .entry)) pc f) ⌝ }
 {
     match a {
-        Adjust::Adding(v, c) => did(added(v, c, x, d, r)),
-        Adjust::NoRow => refused(r, Refusal::NoAdjustRow(r.pc)),
+        Adjust::Adding(v, c) => {
+            let y = arith::mov(Width::Byte, x % 256 + v as u32);
+            registers::put(Width::Byte, er, d, y.value);
+            did(f.with_adjusted(y, c))
+        }
+        Adjust::NoRow => refused(f, Refusal::NoAdjustRow(pc)),
     }
 }
 
 // DAA and DAS.
-pub fn decimal(way: Way, d: u8, r: Registers) -> Deed
-    ensures { λ e. ⌜ endedOf r e ≡ decimalOf way d r ⌝ }
+pub fn daa(er: &mut [u32; 8], d: u8, pc: u32, f: Condition) -> Deed
+    ensures { λ e. ⌜ effectIn (now (er .exit)) pc e ≡ decimalOf Up d (lent (now (er .entry)) pc f) ⌝ }
 {
-    let x = registers::part(Width::Byte, r, d);
-    adjusted(row(way, r, x), x, d, r)
+    let x = registers::get(Width::Byte, er, d);
+    adjusted(arith::decimal::daa(f.c, f.h, x), x, er, d, pc, f)
 }
 
-// c is C before.
-fn turned(turn: Turn, w: Width, x: u32, c: bool) -> Shifted
-    ensures { λ q. ⌜ q ≡ turnedOf turn (bitsOf w) x c ⌝ }
+pub fn das(er: &mut [u32; 8], d: u8, pc: u32, f: Condition) -> Deed
+    ensures { λ e. ⌜ effectIn (now (er .exit)) pc e ≡ decimalOf Down d (lent (now (er .entry)) pc f) ⌝ }
 {
-    match turn {
-        Turn::Shll => arith::shifts::shll(w, x),
-        Turn::Shlr => arith::shifts::shlr(w, x),
-        Turn::Rotxl => arith::shifts::rotxl(w, x, c),
-        Turn::Rotxr => arith::shifts::rotxr(w, x, c),
-        Turn::Shal => arith::shifts::shal(w, x),
-        Turn::Shar => arith::shifts::shar(w, x),
-        Turn::Rotl => arith::shifts::rotl(w, x),
-        Turn::Rotr => arith::shifts::rotr(w, x),
-    }
-}
-
-// Shifts and rotates.
-pub fn shift(turn: Turn, w: Width, d: u8, r: Registers) -> Changes
-    ensures { λ q. ⌜ changedOf r q ≡ shiftOf turn w d r ⌝ }
-{
-    let f = r.condition;
-    shifted(w, d, r, turned(turn, w, registers::part(w, r, d), f.c))
-}
-
-// NOT, NEG, EXTU, EXTS.
-pub fn unary(single: Single, w: Width, d: u8, r: Registers) -> Changes
-    ensures { λ q. ⌜ changedOf r q ≡ unaryOf single w d r ⌝ }
-{
-    let x = registers::part(w, r, d);
-    match single {
-        Single::Not => moved(w, d, r, arith::logic::not(w, x)),
-        Single::Neg => summed(w, d, r, arith::sums::neg(w, x)),
-        Single::Extu => moved(w, d, r, arith::logic::extu(w, x)),
-        Single::Exts => moved(w, d, r, arith::logic::exts(w, x)),
-    }
+    let x = registers::get(Width::Byte, er, d);
+    adjusted(arith::decimal::das(f.c, f.h, x), x, er, d, pc, f)
 }

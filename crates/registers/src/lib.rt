@@ -7,7 +7,8 @@ use arith::Width;
 ghost use mathlib.Core.Path.{_≡_};
 ghost use Prim.Native.Nat.{_/_, _*_, _%_};
 ghost use Rattle.registers.specs.Condition.{conditionOf, byteOf, withSum, withExtended, withCounted, withShifted, withMoved, withAdjusted, withProduct};
-ghost use Rattle.registers.specs.Parts.{Below, belowOf, partOf, insertOf, withPart, withCondition, pcOf, withPc};
+ghost use Rattle.registers.specs.Parts.{Below, belowOf, insertOf, pcOf};
+ghost use Rattle.registers.specs.Lent.{partIn, putIn};
 
 // The condition byte as its eight bits: each change of flags is then a record, and "the others stay" can be seen.
 pub struct Condition {
@@ -191,18 +192,8 @@ fn below(w: Width, d: u8) -> u32
     }
 }
 
-// The part of digit d.
-pub fn part(w: Width, r: Registers, d: u8) -> u32
-    ensures { λ q. ⌜ q ≡ partOf w r d ⌝ }
-{
-    let k = (d % 8) as usize;
-    let x = r.er[k];
-    let p = below(w, d);
-    arith::low_bits(w, x / p)
-}
-
 // A register's value where a part is replaced.
-pub fn insert(w: Width, d: u8, old: u32, x: u32) -> u32
+fn insert(w: Width, d: u8, old: u32, x: u32) -> u32
     ensures { λ q. ⌜ q ≡ insertOf w d old x ⌝ }
 {
     match w {
@@ -220,23 +211,23 @@ pub fn insert(w: Width, d: u8, old: u32, x: u32) -> u32
     }
 }
 
-// The registers with the part of digit d replaced by the low bits of x.
-pub fn with_part(w: Width, r: Registers, d: u8, x: u32) -> Registers
-    ensures { λ q. ⌜ q ≡ withPart w r d x ⌝ }
+// The part of digit d, where the registers lie.
+pub fn get(w: Width, er: &[u32; 8], d: u8) -> u32
+    ensures { λ q. ⌜ q ≡ partIn w (now (er .entry)) d ⌝ }
 {
-    let mut q = r;
     let k = (d % 8) as usize;
-    let old = q.er[k];
-    q.er[k] = insert(w, d, old, x);
-    q
+    let x = er[k];
+    let p = below(w, d);
+    arith::low_bits(w, x / p)
 }
 
-pub fn with_condition(r: Registers, f: Condition) -> Registers
-    ensures { λ q. ⌜ q ≡ withCondition r f ⌝ }
+// The part of digit d becomes the low bits of x, where the registers lie.
+pub fn put(w: Width, er: &mut [u32; 8], d: u8, x: u32)
+    ensures { λ _. ⌜ now (er .exit) ≡ putIn w (now (er .entry)) d x ⌝ }
 {
-    let mut q = r;
-    q.condition = f;
-    q
+    let k = (d % 8) as usize;
+    let old = er[k];
+    er[k] = insert(w, d, old, x);
 }
 
 // What PC holds when it is set to an address.
@@ -244,13 +235,4 @@ pub fn pc(a: u32) -> u32
     ensures { λ r. ⌜ r ≡ pcOf a ⌝ }
 {
     a % 0x1000000 / 2 * 2
-}
-
-pub fn with_pc(r: Registers, p: u32) -> Registers
-    ensures { λ q. ⌜ q ≡ withPc r p ⌝ }
-{
-    let mut q = r;
-    let even = pc(p);
-    q.pc = even;
-    q
 }

@@ -1,14 +1,13 @@
 -- A run of one step is the step.
-use Prim.Native.Nat.{ℕ, _+_, _%_, _≤_, _<_}
+use Prim.Native.Nat.{ℕ, _+_, _%_, _<_}
 use mathlib.Core.Path.{_≡_, refl, sym, _∙_, ap}
 use mathlib.Core.Bool.{Bool, true, false, cond, _&&_}
 use mathlib.Core.List.{List}
 use native.Mathlib.Nat.{mod-eq-of-lt}
 use native.Mathlib.Omega.{arith}
-use borrow.Author.Tests.{eqb-true, ne-eqb}
-use lib.Dec.{eqb, ltb}
+use borrow.Author.Tests.{ne-eqb}
+use lib.Dec.{eqb}
 use lib.ListN.{length}
-use Rattle.refusal.specs.declared.Refusal.{Refusal}
 use Rattle.refusal.specs.declared.Outcome.{Outcome}
 use Rattle.refusal.specs.declared.Outcome.the-variants.{Done, Refused}
 use Rattle.registers.specs.declared.Registers.{Registers}
@@ -17,16 +16,9 @@ use Rattle.memory.specs.declared.Board.{Board}
 use Rattle.step.specs.Step.{After, after, answered, goodPc, stepOf}
 use Rattle.step.proofs.Laws.{step-refused, step-states}
 use Rattle.run.specs.Run.{Ran, ran, told, onward, runFrom, runOf}
+use Rattle.run.proofs.Turns.{both, pc-fits}
 use Rattle.run.specs.MirrorSingle.{outcomeOf}
 use Rattle.run.specs.declared.Ending.the-variants.{AtStop, Spent, Halted}
-
-both : (p q : Bool) → p && q ≡ true → (p ≡ true) × (q ≡ true)
-both true true e = (refl, refl)
-both true false e = (refl, e)
-both false q e = absurd (no-true e)
-  where
-    no-true : false ≡ true → ⊥
-    no-true h = let z : _≡_ {A = ℕ} 0 1 = cc in omega arith
 
 -- the step's answer, read off the run's
 abbrev pub one : Ran → After
@@ -35,7 +27,7 @@ one x = after (answered (x .answer .regs) (x .answer .states % 4294967296) (outc
 module _ (b : Board) (rom ram : List ℕ) (r : Registers) where
   -- PC is not the odd stop address
   off : goodPc (r .pc) ≡ true → eqb (r .pc) 1 ≡ false
-  off g = let (e, l) = both (eqb (r .pc % 2) 0) (ltb (r .pc) 16777216) g in let h : r .pc % 2 ≡ 0 = eqb-true (r .pc % 2) 0 e in ne-eqb (r .pc) 1 (λ k. absurd (omega arith))
+  off g = let h = pc-fits true (r .pc) g in ne-eqb (r .pc) 1 (λ k. absurd (omega arith))
 
   last : (t : Bool) (q : Registers) (m : List ℕ) (n : ℕ) → one (cond t (ran (told q (0 + 1) n AtStop) m) (ran (told q (0 + 1) n Spent) m)) ≡ after (answered q (n % 4294967296) Done) m
   last true q m n = refl

@@ -1,64 +1,88 @@
 -- One turn of a run. The board was found right and PC is one that can be; both stay so. Assumes nothing.
-use Prim.Native.Nat.{ℕ, zero, suc, _+_, _-_, _≤_}
+use Prim.Native.Nat.{ℕ, zero, suc, _+_, _-_, _/_, _%_, _≤_, _<_}
 use mathlib.Core.Path.{_≡_, refl, sym, _∙_, ap, subst}
 use mathlib.Core.Bool.{Bool, true, false, _&&_}
 use mathlib.Core.List.{List}
-use borrow.Author.Tests.{eq-eqb, ne-eqb}
+use borrow.Author.Tests.{eq-eqb, ne-eqb, eqb-true, ltb-true, lt-ltb, le-ltb}
 use native.Mathlib.Omega.{arith}
-use lib.Dec.{eqb}
+use lib.Dec.{eqb, ltb}
 use lib.ListN.{length}
 use Rattle.refusal.specs.declared.Refusal.{Refusal}
-use Rattle.refusal.specs.declared.Outcome.{Outcome}
+use Rattle.refusal.specs.declared.Refusal.the-variants.{FetchOutside}
 use Rattle.refusal.specs.declared.Outcome.the-variants.{Done, Refused}
+use Rattle.registers.specs.declared.Condition.{Condition}
 use Rattle.registers.specs.declared.Registers.{Registers}
+use Rattle.registers.specs.Lent.{lent}
+use Rattle.registers.specs.Parts.{pcOf}
 use Rattle.memory.specs.Board.{goodBoard}
 use Rattle.memory.specs.declared.Board.{Board}
-use Rattle.registers.specs.declared.Condition.{Condition}
-use Rattle.registers.specs.Parts.{withPart, withCondition, pcOf, withPc}
-use Rattle.operate.specs.declared.Fresh.{Fresh}
-use Rattle.operate.specs.declared.Fresh.the-variants.{Nothing, Part}
-use Rattle.operate.specs.MirrorChanges.{freshEr, freshOf, changedOf}
-use Rattle.step.specs.Step.{After, after, answered, stays, finishOf, goodPc, fetchOf, stepOf}
-use Rattle.step.specs.MirrorTurn.{toldOf}
-use Rattle.step.specs.declared.Turn.{Turn}
+use Rattle.entry.specs.Entry.{byKind, meaningOf}
+use Rattle.step.specs.Step.{After, after, answered, stays, actOf, goodPc, fetchOf, stepOf}
 use Rattle.step.specs.declared.StepAnswer.{StepAnswer}
-use Rattle.step.proofs.Laws.{Kept, fetch-keeps}
-use Rattle.run.specs.Run.{Ran, ran, told, onward, runFrom}
+use Rattle.step.proofs.Laws.{Kept, fetch-keeps, fetch-refused}
+use Rattle.turns.specs.declared.Turn.{Turn}
+use Rattle.turns.specs.MirrorTurn.{toldAs, toldIn}
+use Rattle.turns.proofs.Laws.{told-done, told-refused}
+use Rattle.run.specs.MirrorKept.{Means}
+use Rattle.run.specs.Run.{ran, told, runFrom}
 use Rattle.run.specs.declared.Ending.the-variants.{AtStop, Spent, Halted}
 
-abbrev pub regs : List ℕ → ℕ → Condition → Registers
-regs er pc f = record { er = er; pc = pc; condition = f }
+-- ---- the entry at PC
 
--- two parts written where the registers lie
-written : (r : Registers) (x y : Fresh) (f : Condition) (p : ℕ)
-    → withPc (withCondition (freshOf (freshOf r x) y) f) p ≡ regs (freshEr (freshEr (r .er) x) y) (pcOf p) f
-unfolding freshOf freshEr withPart
-written r Nothing Nothing f p = refl
-written r Nothing (Part w d v) f p = refl
-written r (Part w d v) Nothing f p = refl
-written r (Part w d v) (Part w′ d′ v′) f p = refl
+module _ (r : Registers) (b : Board) (rom ram : List ℕ) where
+  pub outside : length rom ≤ r .pc → after (stays r (FetchOutside (r .pc))) ram ≡ fetchOf r b rom ram
+  unfolding fetchOf
+  outside l = rw (le-ltb _ _ l)
 
-module _ (r : Registers) (t : Turn) where
-  told-done : t .outcome ≡ Done → toldOf r t ≡ answered (regs (freshEr (freshEr (r .er) (t .changes .first)) (t .changes .second)) (pcOf (t .pc)) (t .changes .condition)) (t .states) Done
-  unfolding toldOf finishOf changedOf
-  told-done d = rw (d, written r (t .changes .first) (t .changes .second) (t .changes .condition) (t .pc))
+  module _ (e : ℕ) (l : r .pc < length rom) (m : Means rom (r .pc) e) where
+    fetched : actOf (meaningOf (r .pc) e) r b rom ram ≡ fetchOf r b rom ram
+    unfolding fetchOf
+    fetched = rw (lt-ltb _ _ l, m)
 
-  told-refused : (f : Refusal) → t .outcome ≡ Refused f → toldOf r t ≡ stays r f
-  unfolding toldOf finishOf
-  told-refused f d = rw d
+    -- what its kind's group left is what the step leaves
+    pub by-kind : (k : ℕ) → e / 16 % 32 ≡ k → (a : After) → a ≡ actOf (byKind (r .pc) k (e % 16) (e / 512)) r b rom ram → a ≡ fetchOf r b rom ram
+    unfolding meaningOf
+    by-kind k h a w = let g : actOf (byKind (r .pc) (e / 16 % 32) (e % 16) (e / 512)) r b rom ram ≡ fetchOf r b rom ram = fetched in w ∙ rw h at g
 
-  module _ (b : Board) (rom ram m : List ℕ) (e : after (toldOf r t) m ≡ fetchOf r b rom ram) where
-    -- the registers that a completed turn leaves, as they were written
-    pub turn-done : t .outcome ≡ Done → (er : List ℕ) (pc : ℕ) → er ≡ freshEr (freshEr (r .er) (t .changes .first)) (t .changes .second) → pc ≡ pcOf (t .pc)
-        → after (answered (regs er pc (t .changes .condition)) (t .states) Done) m ≡ fetchOf r b rom ram
-    turn-done d er pc x y = rw (x, y) (ap (λ (a : StepAnswer). after a m) (sym (told-done d)) ∙ e)
+-- ---- what the turn left: er and m after it
 
-    pub turn-refused : (f : Refusal) → t .outcome ≡ Refused f → after (stays r f) m ≡ fetchOf r b rom ram
-    turn-refused f d = ap (λ (a : StepAnswer). after a m) (sym (told-refused f d)) ∙ e
+module _ (er₀ er : List ℕ) (pc : ℕ) (f : Condition) (t : Turn) (b : Board) (rom ram m : List ℕ) (e : after (toldIn er pc t) m ≡ fetchOf (lent er₀ pc f) b rom ram) where
+  pub turn-done : t .outcome ≡ Done → after (answered (lent er (pcOf (t .pc)) (t .condition)) (t .states) Done) m ≡ fetchOf (lent er₀ pc f) b rom ram
+  turn-done d = ap (λ (a : StepAnswer). after a m) (sym (told-done er pc t d)) ∙ e
 
-first : (p q : Bool) → p && q ≡ true → p ≡ true
-first true q e = refl
-first false q e = e
+  -- a refused turn has written nothing
+  module _ (x : Refusal) (d : t .outcome ≡ Refused x) where
+    outcome-is : toldIn er pc t .outcome ≡ Refused x
+    unfolding toldIn toldAs
+    outcome-is = rw d
+
+    step-stays : fetchOf (lent er₀ pc f) b rom ram ≡ after (stays (lent er₀ pc f) x) ram
+    step-stays = fetch-refused (lent er₀ pc f) b rom ram x (ap (λ (a : After). a .answer .outcome) (sym e) ∙ outcome-is)
+
+    pub same-registers : er ≡ er₀
+    same-registers = told-refused er m ram pc (lent er₀ pc f) t x d (e ∙ step-stays)
+
+    pub same-memory : m ≡ ram
+    same-memory = ap (λ (a : After). a .mem) (e ∙ step-stays)
+
+    pub turn-refused : after (stays (lent er₀ pc f) x) m ≡ fetchOf (lent er₀ pc f) b rom ram
+    turn-refused = rw same-memory (sym step-stays)
+
+-- ---- the run
+
+pub both : (p q : Bool) → p && q ≡ true → (p ≡ true) × (q ≡ true)
+both true true e = (refl, refl)
+both true false e = (refl, e)
+both false q e = absurd (no-true e)
+  where
+    no-true : false ≡ true → ⊥
+    no-true h = let z : _≡_ {A = ℕ} 0 1 = cc in omega arith
+
+-- a PC that can be
+pub pc-fits : (good : Bool) (pc : ℕ) → good && goodPc pc ≡ true → (pc < 16777216) × (pc % 2 ≡ 0)
+pc-fits good pc h =
+    let (e, l) = both (eqb (pc % 2) 0) (ltb pc 16777216) (both good (goodPc pc) h .1) in
+    (ltb-true pc 16777216 l, eqb-true (pc % 2) 0 e)
 
 module _ (b : Board) (rom : List ℕ) (stop : ℕ) (ram : List ℕ) (r : Registers) (steps states : ℕ) where
   at-stop : (n : ℕ) → eqb (r .pc) stop ≡ true → runFrom b rom stop n ram r steps states ≡ ran (told r steps states AtStop) ram
@@ -78,11 +102,17 @@ module _ (b : Board) (rom : List ℕ) (stop : ℕ) (ram : List ℕ) (r : Registe
     unfolding stepOf
     step-is = rw good (sym e)
 
-    pub still-good : a .outcome ≡ Done → goodBoard b (length rom) (length m) && goodPc (a .regs .pc) ≡ true
-    still-good d =
-        let o : fetchOf r b rom ram .answer .outcome ≡ Done = ap (λ (x : After). x .answer .outcome) (sym e) ∙ d in
-        let k : Kept r b rom ram (after a m) = subst (λ (x : After). Kept r b rom ram x) (sym e) (fetch-keeps r b rom ram o) in
-        rw (k .length-stays, first (goodBoard b (length rom) (length ram)) (goodPc (r .pc)) good) (k .pc-good)
+    module _ (d : a .outcome ≡ Done) where
+      kept : Kept r b rom ram (after a m)
+      kept =
+          let o : fetchOf r b rom ram .answer .outcome ≡ Done = ap (λ (x : After). x .answer .outcome) (sym e) ∙ d in
+          subst (λ (x : After). Kept r b rom ram x) (sym e) (fetch-keeps r b rom ram o)
+
+      pub length-kept : length m ≡ length ram
+      length-kept = kept .length-stays
+
+      pub still-good : goodBoard b (length rom) (length m) && goodPc (a .regs .pc) ≡ true
+      still-good = rw (kept .length-stays, both (goodBoard b (length rom) (length ram)) (goodPc (r .pc)) good .0) (kept .pc-good)
 
     module _ (budget : ℕ) (off : r .pc ≡ stop → ⊥) (le : steps ≤ budget) (ne : steps ≡ budget → ⊥) where
       left : budget - steps ≡ suc (budget - (steps + 1))

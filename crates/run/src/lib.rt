@@ -6,13 +6,15 @@ use registers::Registers;
 use step::StepAnswer;
 ghost use mathlib.Core.Path.{_≡_};
 ghost use mathlib.Core.Bool.{true, _&&_};
-ghost use Prim.Native.Nat.{_≤_};
+ghost use Prim.Native.Nat.{_%_, _≤_};
 ghost use lib.ListN.{length};
 ghost use Rattle.memory.specs.Board.{goodBoard};
-ghost use Prim.Native.Nat.{_%_};
 ghost use Rattle.step.specs.Step.{after, answered, goodPc, stepOf};
+ghost use Rattle.run.specs.MirrorKept.{Keeps};
 ghost use Rattle.run.specs.MirrorSingle.{outcomeOf};
 ghost use Rattle.run.specs.Run.{ran, told, runFrom, runOf};
+
+mod kept;
 
 // Why a run ended.
 pub enum Ending {
@@ -39,10 +41,18 @@ fn answer(r: Registers, steps: u32, states: u64, why: Ending) -> RunAnswer
     }
 }
 
-// The board was looked at once; it stays right, and PC stays one that can be, so the inner step is the step. The registers lie here,
-// and a step's changes are written into them.
-fn repeat(b: Board, rom: &[u8], ram: &mut [u8], r: Registers, stop: u32, budget: u32) -> RunAnswer
-    requires { ⌜ (budget ≤ 1000000) × (goodBoard b (length (now rom)) (length (now ram)) && goodPc (r .pc) ≡ true) ⌝ }
+// The board was looked at once; it stays right, and PC stays one that can be. The registers lie here, and each group of entries is called
+// once, from here: so the compiler puts the whole of a step into this loop, which is why the loop is not parted.
+fn repeat(
+    b: Board,
+    rom: &[u8],
+    lines: &mut [u64],
+    ram: &mut [u8],
+    r: Registers,
+    stop: u32,
+    budget: u32,
+) -> RunAnswer
+    requires { ⌜ (budget ≤ 1000000) × (goodBoard b (length (now rom)) (length (now ram)) && goodPc (r .pc) ≡ true) × Keeps (now rom) (now lines) ⌝ }
     ensures { λ q. ⌜ ran q (now (ram .exit)) ≡ runFrom b (now (rom .entry)) stop budget (now (ram .entry)) r 0 0 ⌝ }
 {
     let mut er = r.er;
@@ -57,25 +67,40 @@ fn repeat(b: Board, rom: &[u8], ram: &mut [u8], r: Registers, stop: u32, budget:
         if steps == budget {
             break Ending::Spent;
         }
-        let q = Registers {
-            er: er,
-            pc: pc,
-            condition: f,
+        let at = pc as usize;
+        if rom.len() <= at {
+            break Ending::Halted(Refusal::FetchOutside(pc));
+        }
+        let e = kept::look(lines, rom, at);
+        let k = (e % 16) as u8;
+        let x = e / 512;
+        let t = match e / 16 % 32 {
+            0 => execute::reg_byte(k, x, pc, &mut er, f),
+            1 => execute::reg_word(k, x, pc, &mut er, f),
+            2 => execute::reg_long(k, x, pc, &mut er, f),
+            3 => execute::imm_byte(k, x, pc, &mut er, f),
+            4 => execute::imm_word(k, x, pc, &mut er, f),
+            5 => execute::imm_long(k, x, pc, &mut er, f),
+            6 => execute::counted(k, x, pc, &mut er, f),
+            7 => execute::turned(k, x, pc, &mut er, f),
+            8 => execute::turned_long(k, x, pc, &mut er, f),
+            9 => transfer::single(k, x, pc, &mut er, f, b, rom, &ram[..]),
+            10 => transfer::moving::byte(k, x, pc, &mut er, f, b, rom, ram),
+            11 => transfer::moving::word(k, x, pc, &mut er, f, b, rom, ram),
+            12 => transfer::moving::long(k, x, pc, &mut er, f, b, rom, ram),
+            13 => execute::branch_near(k, x, pc, f),
+            14 => execute::branch_far(k, x, pc, f),
+            15 => transfer::jump(k, x, pc, &mut er, f, b, rom, ram),
+            _ => turns::refuse(f, Refusal::UnknownCode(pc)),
         };
-        let t = step::fetch(q, b, rom, ram);
         let o = t.outcome;
         match o {
-            Outcome::Refused(x) => {
-                break Ending::Halted(x);
+            Outcome::Refused(y) => {
+                break Ending::Halted(y);
             }
             Outcome::Done => {}
         }
-        let c = t.changes;
-        let first = c.first;
-        let second = c.second;
-        operate::write(&mut er, first);
-        operate::write(&mut er, second);
-        f = c.condition;
+        f = t.condition;
         pc = registers::pc(t.pc);
         states = states + t.states as u64;
         steps = steps + 1;
@@ -93,16 +118,33 @@ fn repeat(b: Board, rom: &[u8], ram: &mut [u8], r: Registers, stop: u32, budget:
     }
 }
 
-pub fn run(b: Board, rom: &[u8], ram: &mut [u8], r: Registers, stop: u32, budget: u32) -> RunAnswer
+// A run that keeps what fits into the lines.
+fn start(
+    b: Board,
+    rom: &[u8],
+    lines: &mut [u64],
+    ram: &mut [u8],
+    r: Registers,
+    stop: u32,
+    budget: u32,
+) -> RunAnswer
+    requires { ⌜ Keeps (now rom) (now lines) ⌝ }
     ensures { λ q. ⌜ ran q (now (ram .exit)) ≡ runOf b (now (rom .entry)) (now (ram .entry)) r stop budget ⌝ }
 {
     if 1000000 < budget {
         return answer(r, 0, 0, Ending::Halted(Refusal::BudgetTooLarge));
     }
     if memory::good_board(b, rom, &ram[..]) & step::good_pc(r.pc) {
-        return repeat(b, rom, ram, r, stop, budget);
+        return repeat(b, rom, lines, ram, r, stop, budget);
     }
     answer(r, 0, 0, Ending::Halted(Refusal::BadBoard))
+}
+
+pub fn run(b: Board, rom: &[u8], ram: &mut [u8], r: Registers, stop: u32, budget: u32) -> RunAnswer
+    ensures { λ q. ⌜ ran q (now (ram .exit)) ≡ runOf b (now (rom .entry)) (now (ram .entry)) r stop budget ⌝ }
+{
+    let mut lines: [u64; 256] = [0; 256];
+    start(b, rom, &mut lines, ram, r, stop, budget)
 }
 
 fn outcome(why: Ending) -> Outcome
@@ -126,12 +168,12 @@ fn ended(q: Registers, states: u64, why: Ending) -> StepAnswer
     }
 }
 
-// `step::step` as a run of one step. In a library that has both, the step is then compiled once, into the loop. The stop address is
-// odd, and PC is not.
+// One step: a run of one, that keeps nothing. The stop address is odd, and PC is not.
 pub fn single(b: Board, rom: &[u8], ram: &mut [u8], r: Registers) -> StepAnswer
     ensures { λ q. ⌜ after q (now (ram .exit)) ≡ stepOf b (now (rom .entry)) (now (ram .entry)) r ⌝ }
 {
-    let a = run(b, rom, ram, r, 1, 1);
+    let mut none: [u64; 0] = [0; 0];
+    let a = start(b, rom, &mut none, ram, r, 1, 1);
     let q = a.regs;
     let why = a.why;
     ended(q, a.states, why)

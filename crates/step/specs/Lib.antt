@@ -1,4 +1,3 @@
 pub mod Follow
 pub mod Step
-pub mod MirrorTurn
 pub mod Processor

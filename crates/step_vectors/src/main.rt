@@ -302,7 +302,7 @@ fn line(base: u32, rom: &[u8], ram: &mut [u8], r: Registers) -> Registers {
     show_general(before);
     show_control(r);
     show_ram(&ram[..]);
-    let a = step::step(Board { base }, rom, ram, r);
+    let a = run::single(Board { base }, rom, ram, r);
     let o = a.outcome;
     let q = a.regs;
     let after = q.er;
@@ -442,7 +442,7 @@ fn show_taken(pc: u32) {
 fn branch(digit: u8, flags: u8) {
     let rom = [0x40 + digit % 16, 0x10];
     let mut ram = [0u8; 0];
-    let a = step::step(
+    let a = run::single(
         Board { base: BASE },
         &rom,
         &mut ram,

@@ -1,122 +1,143 @@
-use Prim.Native.Nat.{ℕ, _+_, _-_, _*_, _≤_}
+use Prim.Native.Nat.{ℕ, _-_, _*_, _≤_}
 use mathlib.Core.Path.{_≡_, refl, sym, _∙_, ap}
+use mathlib.Core.Bool.{true, _&&_}
 use mathlib.Core.List.{List}
+use mathlib.Core.Logic.{⊎-elim}
 use native.Mathlib.Nat.{sub-zero}
 use native.Mathlib.Omega.{arith}
-use mathlib.Core.Bool.{true, _&&_}
 use lib.ListN.{length}
-use Rattle.memory.specs.Board.{goodBoard}
-use Rattle.refusal.specs.declared.Outcome.the-variants.{Done}
-use Rattle.operate.specs.MirrorChanges.{freshEr}
-use Rattle.step.specs.Step.{answered, stays, goodPc}
-use Rattle.run.specs.Run.{runFrom}
-use Rattle.run.proofs.Turns.{regs, turn-done, turn-refused, stops, spent, still-good, goes-on, refused}
 use borrow.Author.Needs.{needs}
+use borrow.Author.Tests.{ne-eqb}
+use Rattle.refusal.specs.declared.Outcome.the-variants.{Done}
+use Rattle.registers.specs.Lent.{lent}
+use Rattle.memory.specs.Board.{goodBoard}
+use Rattle.entry.specs.Entry.{byKind}
+use Rattle.step.specs.Step.{after, answered, actOf, goodPc, fetchOf}
+use Rattle.turns.specs.MirrorTurn.{toldIn}
+use Rattle.turns.proofs.Laws.{refused-stays}
+use Rattle.run.specs.MirrorKept.{Keeps}
+use Rattle.run.specs.Run.{runFrom}
+use Rattle.run.proofs.Turns.{outside, by-kind, turn-done, turn-refused, same-registers, same-memory, pc-fits, stops, spent, length-kept, still-good, goes-on, refused}
+use Rattle.run.proofs.kept.look.Reads as look-reads
+use Rattle.execute.proofs.reg_byte.Reads as reg-byte-reads
+use Rattle.execute.proofs.reg_word.Reads as reg-word-reads
+use Rattle.execute.proofs.reg_long.Reads as reg-long-reads
+use Rattle.execute.proofs.imm_byte.Reads as imm-byte-reads
+use Rattle.execute.proofs.imm_word.Reads as imm-word-reads
+use Rattle.execute.proofs.imm_long.Reads as imm-long-reads
+use Rattle.execute.proofs.counted.Reads as counted-reads
+use Rattle.execute.proofs.turned.Reads as turned-reads
+use Rattle.execute.proofs.turned_long.Reads as turned-long-reads
+use Rattle.transfer.proofs.single.Reads as single-reads
+use Rattle.transfer.proofs.moving.byte.Reads as byte-reads
+use Rattle.transfer.proofs.moving.word.Reads as word-reads
+use Rattle.transfer.proofs.moving.long.Reads as long-reads
+use Rattle.execute.proofs.branch_near.Reads as branch-near-reads
+use Rattle.execute.proofs.branch_far.Reads as branch-far-reads
+use Rattle.transfer.proofs.jump.Reads as jump-reads
+use Rattle.turns.proofs.refuse.Reads as refuse-reads
+use Rattle.registers.proofs.pc.Reads as pc-reads
+use Rattle.run.proofs.repeat.Reads as reads
+use Rattle.run.proofs.repeat.Lts as lts
 use Rattle.run.proofs.repeat.Statement.{statement}
 use Rattle.run.proofs.repeat.Tie as tie
 
 abbrev Inv-loop : tie.InvT-loop
-Inv-loop b rom ram₀ stop budget er₀ pc₀ f₀ steps₀ states₀ ram er pc f steps states =
-    (length ram ≡ length ram₀) × (length er ≡ 8) × (steps ≤ budget) × (states ≤ steps * 4294967295) × (runFrom b rom stop (budget - steps) ram (regs er pc f) steps states ≡ runFrom b rom stop budget ram₀ (regs er₀ pc₀ f₀) 0 0) × (goodBoard b (length rom) (length ram) && goodPc pc ≡ true)
+Inv-loop b rom lines₀ ram₀ stop budget er₀ pc₀ f₀ steps₀ states₀ lines ram er pc f steps states =
+    (length lines ≡ length lines₀) × (length ram ≡ length ram₀) × (steps ≤ budget) × (states ≤ steps * 4294967295) × (runFrom b rom stop (budget - steps) ram (lent er pc f) steps states ≡ runFrom b rom stop budget ram₀ (lent er₀ pc₀ f₀) 0 0) × (goodBoard b (length rom) (length ram) && goodPc pc ≡ true) × Keeps rom lines
 
 abbrev μ-loop : tie.MeasureT-loop
-μ-loop b rom ram₀ stop budget er₀ pc₀ f₀ steps₀ states₀ ram er pc f steps states = budget - steps
+μ-loop b rom lines₀ ram₀ stop budget er₀ pc₀ f₀ steps₀ states₀ lines ram er pc f steps states = budget - steps
 
-loop-holds : tie.Need-loop-holds Inv-loop μ-loop
-loop-holds c = (search needs, search needs, search needs, search needs, rw sub-zero, c .before .before .before .before .pre .1)
+-- where the arms of the match meet
+abbrev Met : Type 0
+Met = lts.At-match-came (look-reads.Asked, look-reads.Learnt, reg-byte-reads.Asked, reg-byte-reads.Learnt, reg-word-reads.Asked, reg-word-reads.Learnt, reg-long-reads.Asked, reg-long-reads.Learnt, imm-byte-reads.Asked, imm-byte-reads.Learnt, imm-word-reads.Asked, imm-word-reads.Learnt, imm-long-reads.Asked, imm-long-reads.Learnt, counted-reads.Asked, counted-reads.Learnt, turned-reads.Asked, turned-reads.Learnt, turned-long-reads.Asked, turned-long-reads.Learnt, single-reads.Asked, single-reads.Learnt, byte-reads.Asked, byte-reads.Learnt, word-reads.Asked, word-reads.Learnt, long-reads.Asked, long-reads.Learnt, branch-near-reads.Asked, branch-near-reads.Learnt, branch-far-reads.Asked, branch-far-reads.Learnt, jump-reads.Asked, jump-reads.Learnt, refuse-reads.Asked, refuse-reads.Learnt, pc-reads.Asked, pc-reads.Learnt) reads.Pre reads.Post Inv-loop μ-loop
 
-fetch-requires : tie.Need-fetch-requires Inv-loop μ-loop
-fetch-requires c κs = search needs
-
-enum-known-o : tie.Need-enum-known-o Inv-loop μ-loop
-enum-known-o c = search needs
-
-enum-told : tie.Need-enum-told Inv-loop μ-loop
-enum-told c = search needs
-
-slice-aggregate-write : tie.Need-slice-aggregate-write Inv-loop μ-loop
-slice-aggregate-write c = search needs
-
-write-requires : tie.Need-write-requires Inv-loop μ-loop
-write-requires c κs = search needs
-
-slice-aggregate-write-2 : tie.Need-slice-aggregate-write-2 Inv-loop μ-loop
-slice-aggregate-write-2 c = search needs
-
-write-requires-2 : tie.Need-write-requires-2 Inv-loop μ-loop
-write-requires-2 c κs = search needs
-
-pc-requires : tie.Need-pc-requires Inv-loop μ-loop
-pc-requires c κs = search needs
-
-cast-states : tie.Need-cast-states Inv-loop μ-loop
-cast-states c = search needs
-
-add-states : tie.Need-add-states Inv-loop μ-loop
-add-states c = search needs
-
-add-steps : tie.Need-add-steps Inv-loop μ-loop
-add-steps c = search needs
-
-loop-less : tie.Need-loop-less Inv-loop μ-loop
-loop-less c = search needs
-
-loop-again : tie.Need-loop-again Inv-loop μ-loop
-loop-again c =
-    let l = c .before .before .before .before .before .before .before .before .before .before .before .before .before .before .before .before .before .before in
-    let a = l .before .before .before .before .before .args in
-    let s = l .loop in
-    let r = regs (s .er) (s .pc) (s .f) in
-    let f = c .before .before .before .before .before .before .before .before .before .before .before .before .before .before .fetch in
-    let d = c .before .before .before .before .before .before .before .before .before .before .enum-told .given .1 in
-    let w = c .before .before .before .before .write2 .last .0 in
-    let p = c .before .pc .result in
-    let n = answered (regs w p (f .result .changes .condition)) (f .result .states) Done in
-    let m = f .last .1 .1 .1 .0 in
-    let e = turn-done r (f .result) (a .b) (a .rom .now) (s .ram) m (f .ensures) d w p (c .before .before .before .before .write2 .ensures ∙ ap (λ (l : List ℕ). freshEr l (f .result .changes .second)) (c .before .before .before .before .before .before .before .write .ensures)) (c .before .pc .ensures) in (
-      search needs,
-      search needs,
-      omega (arith, s .inv .2, c .before .before .before .before .before .before .before .before .before .before .before .before .before .before .before .before .if2 .left),
-      search needs,
-      sym (goes-on (a .b) (a .rom .now) (a .stop) (s .ram) r (s .steps) (s .states) (s .inv .5) n m e (a .budget) (c .before .before .before .before .before .before .before .before .before .before .before .before .before .before .before .before .before .if1 .left) (s .inv .2) (c .before .before .before .before .before .before .before .before .before .before .before .before .before .before .before .before .if2 .left) refl) ∙ s .inv .4,
-      still-good (a .b) (a .rom .now) (a .stop) (s .ram) r (s .steps) (s .states) (s .inv .5) n m e refl,
-    )
-
-same-length : tie.Need-same-length Inv-loop μ-loop
-same-length c = search needs
-
-returns : tie.Need-returns Inv-loop μ-loop
-returns c =
-    let l = c .before in
-    let a = l .before .before .before .before .before .args in
-    let s = l .loop in
-    sym (stops (a .b) (a .rom .now) (a .stop) (s .ram) (regs (s .er) (s .pc) (s .f)) (s .steps) (s .states) (a .budget - s .steps) (c .if1 .taken)) ∙ s .inv .4
-
-same-length-2 : tie.Need-same-length-2 Inv-loop μ-loop
-same-length-2 c = search needs
-
-returns-2 : tie.Need-returns-2 Inv-loop μ-loop
-returns-2 c =
-    let l = c .before .before in
-    let a = l .before .before .before .before .before .args in
-    let s = l .loop in
-    sym (spent (a .b) (a .rom .now) (a .stop) (s .ram) (regs (s .er) (s .pc) (s .f)) (s .steps) (s .states) (a .budget) (c .before .if1 .left) (c .if2 .taken)) ∙ s .inv .4
-
-same-length-3 : tie.Need-same-length-3 Inv-loop μ-loop
-same-length-3 c = search needs
-
-returns-3 : tie.Need-returns-3 Inv-loop μ-loop
-returns-3 c =
-    let l = c .before .before .before .before .before .before .before .before .before in
-    let a = l .before .before .before .before .before .args in
-    let s = l .loop in
-    let r = regs (s .er) (s .pc) (s .f) in
-    let f = c .before .before .before .before .before .fetch in
-    let e = turn-refused r (f .result) (a .b) (a .rom .now) (s .ram) _ (f .ensures) _ (c .before .o .given .1) in
-    sym (refused (a .b) (a .rom .now) (a .stop) (s .ram) r (s .steps) (s .states) (s .inv .5) _ _ e (a .budget) (c .before .before .before .before .before .before .before .before .if1 .left) (s .inv .2) (c .before .before .before .before .before .before .before .if2 .left) _ refl) ∙ s .inv .4
+-- whichever group was called, it left what the step leaves
+turned : (c : Met) → (
+    let a = c .before .before .before .before .before .before .before .before .before .before .before .before .before .before .args in
+    let s = c .before .before .before .before .before .before .before .before .loop in
+    after (toldIn (c .match .er) (s .pc) (c .match .t)) (c .match .ram) ≡ fetchOf (lent (s .er) (s .pc) (s .f)) (a .b) (a .rom .now) (s .ram))
+unfolding byKind actOf
+turned c =
+    let a = c .before .before .before .before .before .before .before .before .before .before .before .before .before .before .args in
+    let s = c .before .before .before .before .before .before .before .before .loop in
+    let e = c .before .before .before .look in
+    let by = by-kind (lent (s .er) (s .pc) (s .f)) (a .b) (a .rom .now) (s .ram) (e .result) (c .before .before .before .before .before .if3 .left) (e .ensures .0) in
+    ⊎-elim (λ w. simp (w .3, w .4, w .5) (by 0 (w .0 .keys1) _ (w .2 .ensures (a .b) (a .rom .now) (s .ram))))
+    (⊎-elim (λ w. simp (w .3, w .4, w .5) (by 1 (w .0 .keys2) _ (w .2 .ensures (a .b) (a .rom .now) (s .ram))))
+    (⊎-elim (λ w. simp (w .3, w .4, w .5) (by 2 (w .0 .keys3) _ (w .2 .ensures (a .b) (a .rom .now) (s .ram))))
+    (⊎-elim (λ w. simp (w .3, w .4, w .5) (by 3 (w .0 .keys4) _ (w .2 .ensures (a .b) (a .rom .now) (s .ram))))
+    (⊎-elim (λ w. simp (w .3, w .4, w .5) (by 4 (w .0 .keys5) _ (w .2 .ensures (a .b) (a .rom .now) (s .ram))))
+    (⊎-elim (λ w. simp (w .3, w .4, w .5) (by 5 (w .0 .keys6) _ (w .2 .ensures (a .b) (a .rom .now) (s .ram))))
+    (⊎-elim (λ w. simp (w .3, w .4, w .5) (by 6 (w .0 .keys7) _ (w .2 .ensures (a .b) (a .rom .now) (s .ram))))
+    (⊎-elim (λ w. simp (w .3, w .4, w .5) (by 7 (w .0 .keys8) _ (w .2 .ensures (a .b) (a .rom .now) (s .ram))))
+    (⊎-elim (λ w. simp (w .3, w .4, w .5) (by 8 (w .0 .keys9) _ (w .2 .ensures (a .b) (a .rom .now) (s .ram))))
+    (⊎-elim (λ w. simp (w .4, w .5, w .6) (by 9 (w .0 .keys10) _ (w .3 .ensures)))
+    (⊎-elim (λ w. simp (w .6, w .7, w .8) (by 10 (w .0 .keys11) _ (w .3 .ensures)))
+    (⊎-elim (λ w. simp (w .6, w .7, w .8) (by 11 (w .0 .keys12) _ (w .3 .ensures)))
+    (⊎-elim (λ w. simp (w .6, w .7, w .8) (by 12 (w .0 .keys13) _ (w .3 .ensures)))
+    (⊎-elim (λ w. simp (w .2, w .3, w .4) (by 13 (w .0 .keys14) _ (w .1 .ensures (s .er) (a .b) (a .rom .now) (s .ram))))
+    (⊎-elim (λ w. simp (w .2, w .3, w .4) (by 14 (w .0 .keys15) _ (w .1 .ensures (s .er) (a .b) (a .rom .now) (s .ram))))
+    (⊎-elim (λ w. simp (w .6, w .7, w .8) (by 15 (w .0 .keys16) _ (w .3 .ensures)))
+    (λ w. simp (w .2, w .3, w .4, w .1 .ensures) (by _ refl _ (simp (ne-eqb _ _ (w .0 .rest .0 .0 .0 .0 .0 .0 .0 .0 .0 .0 .0 .0 .0 .0 .0 .1), ne-eqb _ _ (w .0 .rest .0 .0 .0 .0 .0 .0 .0 .0 .0 .0 .0 .0 .0 .0 .1), ne-eqb _ _ (w .0 .rest .0 .0 .0 .0 .0 .0 .0 .0 .0 .0 .0 .0 .0 .1), ne-eqb _ _ (w .0 .rest .0 .0 .0 .0 .0 .0 .0 .0 .0 .0 .0 .0 .1), ne-eqb _ _ (w .0 .rest .0 .0 .0 .0 .0 .0 .0 .0 .0 .0 .0 .1), ne-eqb _ _ (w .0 .rest .0 .0 .0 .0 .0 .0 .0 .0 .0 .0 .1), ne-eqb _ _ (w .0 .rest .0 .0 .0 .0 .0 .0 .0 .0 .0 .1), ne-eqb _ _ (w .0 .rest .0 .0 .0 .0 .0 .0 .0 .0 .1), ne-eqb _ _ (w .0 .rest .0 .0 .0 .0 .0 .0 .0 .1), ne-eqb _ _ (w .0 .rest .0 .0 .0 .0 .0 .0 .1), ne-eqb _ _ (w .0 .rest .0 .0 .0 .0 .0 .1), ne-eqb _ _ (w .0 .rest .0 .0 .0 .0 .1), ne-eqb _ _ (w .0 .rest .0 .0 .0 .1), ne-eqb _ _ (w .0 .rest .0 .0 .1), ne-eqb _ _ (w .0 .rest .0 .1), ne-eqb _ _ (w .0 .rest .1), refused-stays)))))))))))))))))))
+    (c .match .came)
 
 pub repeat-spec : {M : Type 1} → statement M
 repeat-spec =
     tie.close
-    (tie.spec Inv-loop μ-loop loop-holds fetch-requires enum-known-o enum-told slice-aggregate-write write-requires slice-aggregate-write-2 write-requires-2
-    pc-requires cast-states add-states add-steps loop-less loop-again same-length returns same-length-2 returns-2 same-length-3 returns-3)
+    (tie.spec Inv-loop μ-loop
+    (λ c. (search needs, search needs, search needs, search needs, rw sub-zero, c .before .before .before .before .before .pre .1, c .before .before .before .before .before .pre .2))
+    (λ c. let a = c .before .before .before .before .before .before .before .before .args in let s = c .before .before .loop in let h = pc-fits (goodBoard (a .b) (length (a .rom .now)) (length (s .ram))) (s .pc) (s .inv .5) in omega arith)
+    (λ c κs. let a = c .before .before .before .before .before .before .before .before .before .before .args in let s = c .before .before .before .before .loop in let h = pc-fits (goodBoard (a .b) (length (a .rom .now)) (length (s .ram))) (s .pc) (s .inv .5) in (c .before .if3 .left, h .0, h .1, s .inv .6))
+    (λ c. search needs) (λ c κs. search needs) (λ c κs. search needs) (λ c κs. search needs) (λ c κs. search needs) (λ c κs. search needs)
+    (λ c κs. search needs) (λ c κs. search needs) (λ c κs. search needs) (λ c κs. search needs) (λ c κs. search needs) (λ c κs. search needs)
+    (λ c κs. search needs) (λ c κs. search needs) (λ c κs. search needs) (λ c κs. search needs) (λ c κs. search needs) (λ c κs. search needs)
+    (λ c. search needs) (λ c. search needs) (λ c κs. search needs) (λ c. search needs) (λ c. search needs) (λ c. search needs) (λ c. search needs)
+    (λ c.
+    let m = c .before .before .before .before .before in
+    let a = m .before .before .before .before .before .before .before .before .before .before .before .before .before .before .args in
+    let s = m .before .before .before .before .before .before .before .before .loop in
+    let r = lent (s .er) (s .pc) (s .f) in
+    let t = m .match .t in
+    let n = answered (lent (m .match .er) (c .before .pc .result) (t .condition)) (t .states) Done in
+    let e : after n (m .match .ram) ≡ fetchOf r (a .b) (a .rom .now) (s .ram) = rw (c .before .pc .ensures) (turn-done (s .er) (m .match .er) (s .pc) (s .f) t (a .b) (a .rom .now) (s .ram) (m .match .ram) (turned m) (c .before .before .before .enum-told .given .1)) in (
+      search needs,
+      length-kept (a .b) (a .rom .now) (a .stop) (s .ram) r (s .steps) (s .states) (s .inv .5) n (m .match .ram) e refl ∙ s .inv .1,
+      omega (arith, s .inv .2, m .before .before .before .before .before .before .if2 .left),
+      search needs,
+      sym (goes-on (a .b) (a .rom .now) (a .stop) (s .ram) r (s .steps) (s .states) (s .inv .5) n (m .match .ram) e (a .budget) (m .before .before .before .before .before .before .before .if1 .left) (s .inv .2) (m .before .before .before .before .before .before .if2 .left) refl) ∙ s .inv .4,
+      still-good (a .b) (a .rom .now) (a .stop) (s .ram) r (s .steps) (s .states) (s .inv .5) n (m .match .ram) e refl,
+      m .before .before .before .look .ensures .1,
+    ))
+    (λ c. search needs) (λ c. search needs)
+    (λ c.
+    let a = c .before .before .before .before .before .before .before .args in
+    let s = c .before .loop in
+    sym (stops (a .b) (a .rom .now) (a .stop) (s .ram) (lent (s .er) (s .pc) (s .f)) (s .steps) (s .states) (a .budget - s .steps) (c .if1 .taken)) ∙ s .inv .4)
+    (λ c. search needs) (λ c. search needs)
+    (λ c.
+    let a = c .before .before .before .before .before .before .before .before .args in
+    let s = c .before .before .loop in
+    sym (spent (a .b) (a .rom .now) (a .stop) (s .ram) (lent (s .er) (s .pc) (s .f)) (s .steps) (s .states) (a .budget) (c .before .if1 .left) (c .if2 .taken)) ∙ s .inv .4)
+    (λ c. search needs) (λ c. search needs)
+    (λ c.
+    let a = c .before .before .before .before .before .before .before .before .before .args in
+    let s = c .before .before .before .loop in
+    let r = lent (s .er) (s .pc) (s .f) in
+    sym (refused (a .b) (a .rom .now) (a .stop) (s .ram) r (s .steps) (s .states) (s .inv .5) _ _ (outside r (a .b) (a .rom .now) (s .ram) (c .if3 .taken)) (a .budget) (c .before .before .if1 .left) (s .inv .2) (c .before .if2 .left) _ refl) ∙ s .inv .4)
+    (λ c. search needs)
+    (λ c.
+    let m = c .before .before .before in
+    let a = m .before .before .before .before .before .before .before .before .before .before .before .before .before .before .args in
+    let s = m .before .before .before .before .before .before .before .before .loop in
+    ap (λ (l : List ℕ). length l) (same-memory (s .er) (m .match .er) (s .pc) (s .f) (m .match .t) (a .b) (a .rom .now) (s .ram) (m .match .ram) (turned m) _ (c .before .o .given .1)) ∙ s .inv .1)
+    (λ c.
+    let m = c .before .before .before in
+    let a = m .before .before .before .before .before .before .before .before .before .before .before .before .before .before .args in
+    let s = m .before .before .before .before .before .before .before .before .loop in
+    let r = lent (s .er) (s .pc) (s .f) in
+    let x = c .before .o .given .1 in
+    let e = turn-refused (s .er) (m .match .er) (s .pc) (s .f) (m .match .t) (a .b) (a .rom .now) (s .ram) (m .match .ram) (turned m) _ x in
+    rw (same-registers (s .er) (m .match .er) (s .pc) (s .f) (m .match .t) (a .b) (a .rom .now) (s .ram) (m .match .ram) (turned m) _ x)
+    (sym (refused (a .b) (a .rom .now) (a .stop) (s .ram) r (s .steps) (s .states) (s .inv .5) _ _ e (a .budget) (m .before .before .before .before .before .before .before .if1 .left) (s .inv .2) (m .before .before .before .before .before .before .if2 .left) _ refl) ∙ s .inv .4)))

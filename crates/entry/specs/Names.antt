@@ -1,0 +1,34 @@
+-- The names of the instruction and its parts, passed on in one place. Nothing here is to be believed.
+pub use Rattle.arith.specs.declared.Width.{Width}
+pub use Rattle.arith.specs.declared.Width.the-variants.{Byte, Word, Long}
+pub use Rattle.codes.specs.declared.Op.{Op}
+pub use Rattle.codes.specs.declared.Op.the-variants.{Add, Sub, Cmp, Mov, Addx, Subx, Or, Xor, And}
+pub use Rattle.codes.specs.declared.Source.{Source}
+pub use Rattle.codes.specs.declared.Source.the-variants.{Reg, Imm}
+pub use Rattle.codes.specs.declared.Way.{Way}
+pub use Rattle.codes.specs.declared.Way.the-variants.{Up, Down}
+pub use Rattle.codes.specs.declared.By.{By}
+pub use Rattle.codes.specs.declared.By.the-variants.{One, Two, Four}
+pub use Rattle.codes.specs.declared.Turn.{Turn}
+pub use Rattle.codes.specs.declared.Turn.the-variants.{Shll, Shlr, Rotxl, Rotxr, Shal, Shar, Rotl, Rotr}
+pub use Rattle.codes.specs.declared.Single.{Single}
+pub use Rattle.codes.specs.declared.Single.the-variants.{Not, Neg, Extu, Exts}
+pub use Rattle.products.specs.declared.Half.{Half}
+pub use Rattle.products.specs.declared.Half.the-variants.{Eight, Sixteen}
+pub use Rattle.codes.specs.declared.Sign.{Sign}
+pub use Rattle.codes.specs.declared.Sign.the-variants.{Unsigned, Signed}
+pub use Rattle.codes.specs.declared.Change.{Change}
+pub use Rattle.codes.specs.declared.Change.the-variants.{Orc, Xorc, Andc, Ldc}
+pub use Rattle.codes.specs.declared.Dir.{Dir}
+pub use Rattle.codes.specs.declared.Dir.the-variants.{Load, Store}
+pub use Rattle.codes.specs.declared.Place.{Place}
+pub use Rattle.codes.specs.declared.Place.the-variants.{At, Step, Disp, Abs8, Abs16, Abs24}
+pub use Rattle.codes.specs.declared.Reach.{Reach}
+pub use Rattle.codes.specs.declared.Reach.the-variants.{Near, Far}
+pub use Rattle.codes.specs.declared.Target.{Target}
+pub use Rattle.codes.specs.declared.Target.the-variants.{ByReg, Direct, Vector}
+pub use Rattle.codes.specs.declared.Instruction.{Instruction}
+pub use Rattle.codes.specs.declared.Instruction.the-variants.{Nop, Stc, LdcReg, Ccr, Alu, IncDec, AddsSubs, Decimal, Shift, Unary, Multiply, Divide, Move, Bcc, Jmp, Bsr, Jsr, Rts}
+pub use Rattle.codes.specs.declared.Decoded.{Decoded}
+pub use Rattle.codes.specs.declared.Decoded.the-variants.{Code, NoCode}
+pub use Rattle.refusal.specs.declared.Refusal.the-variants.{UnknownCode, CutShort}

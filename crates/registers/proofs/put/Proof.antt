@@ -1,0 +1,9 @@
+use borrow.Author.Needs.{needs}
+use Rattle.registers.proofs.put.Statement.{statement}
+use Rattle.registers.proofs.put.Tie as tie
+
+pub put-spec : {M : Type 1} → statement M
+put-spec =
+    tie.close
+    (tie.spec (λ c. search needs) (λ c. search needs) (λ c. search needs) (λ c κs. search needs) (λ c. search needs) (λ c. search needs)
+    (λ c. cc))

@@ -1,0 +1,10 @@
+use Rattle.transfer.proofs.Laws.{push-told}
+use borrow.Author.Needs.{needs}
+use Rattle.transfer.proofs.called.Statement.{statement}
+use Rattle.transfer.proofs.called.Tie as tie
+
+pub called-spec : {M : Type 1} → statement M
+called-spec =
+    tie.close
+    (tie.spec (λ c κs. search needs) (λ c κs. search needs) (λ c. search needs)
+    (λ c. λ pc. rw (c .ended .ensures) (push-told _ _ _ _ pc _ _ _ _ _ _ (c .before .before .before .call .ensures pc))))
