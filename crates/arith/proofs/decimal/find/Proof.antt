@@ -1,36 +1,38 @@
-use native.Mathlib.Nat.{sub-zero}
 use borrow.Author.Needs.{needs}
-use Prim.Native.Nat.{ℕ, zero, suc, _+_, _-_, _*_, _/_, _≤_}
-use mathlib.Core.Path.{_≡_, refl, sym, _∙_}
+use Prim.Native.Nat.{ℕ, _+_, _-_, _≤_, _<_}
+use mathlib.Core.Path.{_≡_, refl}
 use mathlib.Core.Bool.{true, false}
-use mathlib.Core.List.{List}
-use lib.ListN.{getD, length}
-use lib.Dec.{eqb}
+use mathlib.Core.List.{List, []}
+use native.Mathlib.Numerals.{add-one}
 use native.Mathlib.Omega.{arith}
-use Rattle.arith.specs.Decimal.{fitsRow, findRow, adjustOf}
+use lib.ListN.{getD, length, drop}
+use lib.Seq.{drop-cons, drop-length}
+use lib.Dec.{eqb}
+use Rattle.arith.specs.MirrorRows.{fitsIn, findIn}
 use Rattle.arith.specs.declared.Adjust.{Adjust}
 use Rattle.arith.specs.declared.Adjust.the-variants.{Adding, NoRow}
 use Rattle.arith.proofs.decimal.find.Statement.{statement}
 use Rattle.arith.proofs.decimal.find.Tie as tie
 
 -- the row fits, or the search goes on after it
-found : (t : List ℕ) (k n c h v : ℕ) → suc k ≤ n → fitsRow t (8 * k) c h v ≡ true → findRow t k (n - k) c h v ≡ Adding (getD t (8 * k + 6) 0) (eqb (getD t (8 * k + 7) 0) 1)
-unfolding findRow
-found t k n c h v l f = let e : n - k ≡ suc (n - (k + 1)) = omega arith in rw (e, f)
+module _ (t : List (List ℕ)) (k c h v : ℕ) where
+  found : k < length t → fitsIn (getD t k []) c h v ≡ true → findIn (drop k t) c h v ≡ Adding (getD (getD t k []) 6 0) (eqb (getD (getD t k []) 7 0) 1)
+  unfolding findIn
+  found l f = rw (drop-cons t k [] l, f)
 
-passed : (t : List ℕ) (k n c h v : ℕ) → suc k ≤ n → fitsRow t (8 * k) c h v ≡ false → findRow t k (n - k) c h v ≡ findRow t (k + 1) (n - (k + 1)) c h v
-unfolding findRow
-passed t k n c h v l f = let e : n - k ≡ suc (n - (k + 1)) = omega arith in rw (e, f)
+  passed : k < length t → fitsIn (getD t k []) c h v ≡ false → findIn (drop k t) c h v ≡ findIn (drop (k + 1) t) c h v
+  unfolding findIn
+  passed l f = rw (add-one, drop-cons t k [] l, f)
 
-none : (t : List ℕ) (k n c h v : ℕ) → n ≤ k → findRow t k (n - k) c h v ≡ NoRow
-unfolding findRow
-none t k n c h v l = let e : n - k ≡ zero = omega arith in rw e
+  none : k ≡ length t → findIn (drop k t) c h v ≡ NoRow
+  unfolding findIn
+  none e = rw (e, drop-length)
 
 abbrev Inv-loop : tie.InvT-loop
-Inv-loop t c h v x y n k₀ k = (k ≤ n) × (findRow t k (n - k) x y v ≡ findRow t 0 n x y v)
+Inv-loop t c h v x y k₀ k = (k ≤ length t) × (findIn (drop k t) x y v ≡ findIn t x y v)
 
 abbrev μ-loop : tie.MeasureT-loop
-μ-loop t c h v x y n k₀ k = n - k
+μ-loop t c h v x y k₀ k = length t - k
 
 number-requires : tie.Need-number-requires Inv-loop μ-loop
 number-requires c κs = search needs
@@ -39,30 +41,28 @@ number-requires-2 : tie.Need-number-requires-2 Inv-loop μ-loop
 number-requires-2 c κs = search needs
 
 loop-holds : tie.Need-loop-holds Inv-loop μ-loop
-unfolding adjustOf
-loop-holds c = (search needs, rw sub-zero)
+loop-holds c = (search needs, refl)
 
-mul-at : tie.Need-mul-at Inv-loop μ-loop
-mul-at c = search needs
+mul-row : tie.Need-mul-row Inv-loop μ-loop
+mul-row c = search needs
+
+shared-slice-copy-out-row : tie.Need-shared-slice-copy-out-row Inv-loop μ-loop
+shared-slice-copy-out-row c = search needs
 
 fits-requires : tie.Need-fits-requires Inv-loop μ-loop
 fits-requires c κs = search needs
 
-add-t13 : tie.Need-add-t13 Inv-loop μ-loop
-add-t13 c = search needs
+array-read-t17 : tie.Need-array-read-t17 Inv-loop μ-loop
+array-read-t17 c = search needs
 
-shared-slice-read-t15 : tie.Need-shared-slice-read-t15 Inv-loop μ-loop
-shared-slice-read-t15 c = search needs
-
-add-t16 : tie.Need-add-t16 Inv-loop μ-loop
-add-t16 c = search needs
-
-shared-slice-read-t18 : tie.Need-shared-slice-read-t18 Inv-loop μ-loop
-shared-slice-read-t18 c = search needs
+array-read-t20 : tie.Need-array-read-t20 Inv-loop μ-loop
+array-read-t20 c = search needs
 
 returns : tie.Need-returns Inv-loop μ-loop
-unfolding adjustOf
-returns c = let e = c .before .before .before .before .before in let a = e .before .before .before .before .args in cc (found (a .t .now) (e .loop .k) (length (a .t .now) / 8) (e .before .before .number .result) (e .before .number2 .result) (a .v) (c .before .before .before .before .loop-test .taken) (cc))
+returns c =
+    let e = c .before .before .before .before .before in
+    let a = e .before .before .before .args in
+    cc (found (a .t .now) (e .loop .k) (e .before .before .number .result) (e .before .number2 .result) (a .v) (c .before .before .before .before .loop-test .taken) (cc))
 
 add-k : tie.Need-add-k Inv-loop μ-loop
 add-k c = search needs
@@ -71,12 +71,18 @@ loop-less : tie.Need-loop-less Inv-loop μ-loop
 loop-less c = search needs
 
 loop-again : tie.Need-loop-again Inv-loop μ-loop
-unfolding adjustOf
-loop-again c = let e = c .before .before .before in let a = e .before .before .before .before .args in (search needs, cc (passed (a .t .now) (e .loop .k) (length (a .t .now) / 8) (e .before .before .number .result) (e .before .number2 .result) (a .v) (c .before .before .loop-test .taken) (cc)))
+loop-again c =
+    let e = c .before .before .before .before .before in
+    let a = e .before .before .before .args in (
+      search needs,
+      cc (passed (a .t .now) (e .loop .k) (e .before .before .number .result) (e .before .number2 .result) (a .v) (c .before .before .before .before .loop-test .taken) (cc)),
+    )
 
 returns-2 : tie.Need-returns-2 Inv-loop μ-loop
-unfolding adjustOf
-returns-2 c = let e = c .before in let a = e .before .before .before .before .args in cc (none (a .t .now) (e .loop .k) (length (a .t .now) / 8) (e .before .before .number .result) (e .before .number2 .result) (a .v) (c .loop-test .left))
+returns-2 c =
+    let e = c .before in
+    let a = e .before .before .before .args in
+    cc (none (a .t .now) (e .loop .k) (e .before .before .number .result) (e .before .number2 .result) (a .v) (omega arith))
 
 pub find-spec : {M : Type 1} → statement M
 find-spec =
@@ -87,12 +93,11 @@ find-spec =
     number-requires
     number-requires-2
     loop-holds
-    mul-at
+    mul-row
+    shared-slice-copy-out-row
     fits-requires
-    add-t13
-    shared-slice-read-t15
-    add-t16
-    shared-slice-read-t18
+    array-read-t17
+    array-read-t20
     returns
     add-k
     loop-less
