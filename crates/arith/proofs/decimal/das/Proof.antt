@@ -1,10 +1,10 @@
-use Rattle.arith.specs.Decimal.{findRow, adjustOf}
-use Rattle.arith.specs.MirrorRows.{findIn}
+use mathlib.Core.Path.{_∙_}
+use Rattle.arith.proofs.Pointed.{das-pointed}
 use borrow.Author.Needs.{needs}
 use Rattle.arith.proofs.decimal.das.Statement.{statement}
 use Rattle.arith.proofs.decimal.das.Tie as tie
 
--- the rows that the code holds, one after the other, are those of the definition
 pub das-spec : {M : Type 1} → statement M
-unfolding findRow adjustOf findIn
-das-spec = tie.close (tie.spec (λ c. search needs) (λ c κs. search needs) (λ c. c .find .ensures))
+das-spec =
+    tie.close
+    (tie.spec (λ c κs. search needs) (λ c. search needs) (λ c κs. search needs) (λ c. search needs) (λ c. search needs) (λ c. search needs) (λ c κs. search needs) (λ c. let a = c .before .before .before .before .before .args in rw (c .by-row .ensures) (rw (c .before .before .before .number2 .ensures .0, c .before .before .before .before .number .ensures .0) (das-pointed (a .c) (a .h) (a .v)))))
