@@ -20,7 +20,7 @@ use Rattle.codes.specs.declared.Spot.{Spot}
 use Rattle.codes.specs.declared.Spot.the-variants.{InPart, AtEr, AtAbs}
 use Rattle.codes.specs.declared.Place.the-variants.{At, Abs8}
 
--- a bit's number: in the code, or the low three bits of a byte register (002:1441), before anything changes
+-- a bit's number: in the code, or the low three bits of a byte register (002:1168), before anything changes
 unfoldable pub numberOf : Index → Registers → ℕ
 numberOf (Numbered n) r = n % 8
 numberOf (ByPart s) r = partOf Byte r s % 8
