@@ -1,5 +1,5 @@
 -- Laws over the code list and the states, for callers: every code has 2, 4, 6 or 8 bytes, each below 256; an instruction takes 2 to 24 states.
-use Prim.Native.Nat.{ℕ, zero, suc, _-_, _%_, _≤_, _<_}
+use Prim.Native.Nat.{ℕ, zero, suc, _+_, _-_, _%_, _≤_, _<_}
 use mathlib.Core.Path.{_≡_}
 use mathlib.Core.List.{List, [], _∷_}
 use native.Mathlib.Omega.{arith}
@@ -7,10 +7,11 @@ use lib.ListN.{length, getD, take, drop, length-drop}
 use lib.Seq.{take-all}
 use Rattle.codes.specs.Names.{Width, Byte, Word, Long, Op, Add, Sub, Cmp, Mov, Addx, Subx, Or, Xor, And, Source, Reg, Imm, Way, Up, Down, By, One, Two, Four}
 use Rattle.codes.specs.Names.{Turn, Shll, Shlr, Rotxl, Rotxr, Shal, Shar, Rotl, Rotr, Single, Not, Neg, Extu, Exts, Half, Eight, Sixteen, Sign, Unsigned, Signed, Change, Orc, Xorc, Andc, Ldc}
+use Rattle.codes.specs.Names.{Take, Btst, Bor, Bior, Bxor, Bixor, Band, Biand, Bld, Bild, Give, Bset, Bnot, Bclr, Bst, Bist, Index, Numbered, ByPart, Spot, InPart, AtEr, AtAbs}
 use Rattle.codes.specs.Names.{Dir, Load, Store, Place, At, Step, Disp, Abs8, Abs16, Abs24, Reach, Near, Far, Target, ByReg, Direct, Vector}
-use Rattle.codes.specs.Names.{Instruction, Nop, Stc, LdcReg, Ccr, Alu, IncDec, AddsSubs, Decimal, Shift, Unary, Multiply, Divide, Move, Bcc, Jmp, Bsr, Jsr, Rts}
-use Rattle.codes.specs.Code.{codeOf, lengthOf, changeCode, regCode, wayDigit, addsDigit, wordDigit, longDigit, digit013, digit89B, extuDigit, extsDigit, firstDigit, nextDigit, dirDigit, abs8Digit}
-use Rattle.codes.specs.Valid.{Valid, Digit}
+use Rattle.codes.specs.Names.{Instruction, Nop, Stc, LdcReg, Ccr, Alu, IncDec, AddsSubs, Decimal, Shift, Unary, Multiply, Divide, Takes, Gives, Move, Bcc, Jmp, Bsr, Jsr, Rts}
+use Rattle.codes.specs.Code.{codeOf, lengthOf, changeCode, regCode, wayDigit, addsDigit, wordDigit, longDigit, digit013, digit89B, extuDigit, extsDigit, firstDigit, nextDigit, dirDigit, abs8Digit, takeByte, takeSide, giveByte, giveSide, spotCode, bitCode}
+use Rattle.codes.specs.Valid.{Valid, Digit, TakesPart, GivesPart, HasIndex, HasSpot}
 use Rattle.codes.specs.States.{statesOf, longStates, moveStates, productStates}
 use Rattle.codes.specs.Exact.{Bytes}
 
@@ -74,6 +75,12 @@ states-range (Shift turn w r) = omega arith
 states-range (Unary single w r) = omega arith
 states-range (Multiply sign h s d) = product-few sign h
 states-range (Divide sign h s d) = product-few sign h
+states-range (Takes take index (InPart d)) = omega arith
+states-range (Takes take index (AtEr e)) = omega arith
+states-range (Takes take index (AtAbs a)) = omega arith
+states-range (Gives give index (InPart d)) = omega arith
+states-range (Gives give index (AtEr e)) = omega arith
+states-range (Gives give index (AtAbs a)) = omega arith
 states-range (Move dir w p r) = move-few w p
 states-range (Bcc c (Near d)) = omega arith
 states-range (Bcc c (Far d)) = omega arith
@@ -234,6 +241,33 @@ divide-formed Unsigned Sixteen s d v = omega arith
 divide-formed Signed Eight s d v = omega arith
 divide-formed Signed Sixteen s d v = omega arith
 
+take-small : (take : Take) → (takeByte take < 256) × (takeSide take ≤ 8)
+take-small Btst = omega arith
+take-small Bor = omega arith
+take-small Bior = omega arith
+take-small Bxor = omega arith
+take-small Bixor = omega arith
+take-small Band = omega arith
+take-small Biand = omega arith
+take-small Bld = omega arith
+take-small Bild = omega arith
+
+give-small : (give : Give) → (giveByte give < 256) × (giveSide give ≤ 8)
+give-small Bset = omega arith
+give-small Bnot = omega arith
+give-small Bclr = omega arith
+give-small Bst = omega arith
+give-small Bist = omega arith
+
+spot-formed : (lead : ℕ) → lead < 128 → (spot : Spot) → HasSpot spot → (byte digit : ℕ) → byte < 256 → digit < 16 → Formed (spotCode lead spot byte digit)
+spot-formed lead l (InPart d) s byte digit b h = omega arith
+spot-formed lead l (AtEr e) s byte digit b h = omega arith
+spot-formed lead l (AtAbs a) s byte digit b h = omega arith
+
+bit-formed : (part : Type 0) (lead : ℕ) → lead < 128 → (spot : Spot) (index : Index) (byte side : ℕ) → (byte < 256) × (side ≤ 8) → HasIndex part index × HasSpot spot → Formed (bitCode lead spot index byte side)
+bit-formed part lead l spot (Numbered n) byte side b (i, s) = spot-formed lead l spot s byte (side + n) (b .0) (omega arith)
+bit-formed part lead l spot (ByPart r) byte side b (i, s) = spot-formed lead l spot s (byte - 0x10) r (omega arith) (i .1)
+
 move-formed : (dir : Dir) (w : Width) (p : Place) (r : ℕ) → Valid (Move dir w p r) → Formed (codeOf (Move dir w p r))
 move-formed dir Byte (At e) r v = omega (arith, dir-small dir)
 move-formed dir Byte (Step e) r v = omega (arith, dir-small dir)
@@ -272,6 +306,8 @@ formed (Shift turn w r) v = shift-formed turn w r v
 formed (Unary single w r) v = unary-formed single w r (v .1)
 formed (Multiply sign h s d) v = multiply-formed sign h s d v
 formed (Divide sign h s d) v = divide-formed sign h s d v
+formed (Takes take index spot) v = bit-formed (TakesPart take) 0x7C (omega arith) spot index (takeByte take) (takeSide take) (take-small take) v
+formed (Gives give index spot) v = bit-formed (GivesPart give) 0x7D (omega arith) spot index (giveByte give) (giveSide give) (give-small give) v
 formed (Move dir w p r) v = move-formed dir w p r v
 formed (Bcc c (Near d)) v = omega arith
 formed (Bcc c (Far d)) v = omega arith

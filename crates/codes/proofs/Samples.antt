@@ -4,8 +4,9 @@ use Prim.Native.Nat.{ℕ}
 use mathlib.Core.Path.{_≡_, refl}
 use mathlib.Core.List.{List, [], _∷_, map}
 use Rattle.codes.specs.Names.{Byte, Word, Long, Add, Sub, Cmp, Mov, Addx, Or, Reg, Imm, Up, Down, One, Two, Four, Shal, Rotxr, Not, Exts, Eight, Sixteen, Unsigned, Signed, Orc}
+use Rattle.codes.specs.Names.{Btst, Bior, Bld, Bset, Bnot, Bist, Numbered, ByPart, InPart, AtEr, AtAbs}
 use Rattle.codes.specs.Names.{Load, Store, At, Step, Disp, Abs8, Abs24, Near, Far, ByReg, Direct, Vector}
-use Rattle.codes.specs.Names.{Instruction, Nop, Stc, LdcReg, Ccr, Alu, IncDec, AddsSubs, Decimal, Shift, Unary, Multiply, Divide, Move, Bcc, Jmp, Bsr, Jsr, Rts}
+use Rattle.codes.specs.Names.{Instruction, Nop, Stc, LdcReg, Ccr, Alu, IncDec, AddsSubs, Decimal, Shift, Unary, Multiply, Divide, Takes, Gives, Move, Bcc, Jmp, Bsr, Jsr, Rts}
 use Rattle.codes.specs.Code.{codeOf}
 use Rattle.codes.specs.States.{statesOf}
 
@@ -36,6 +37,13 @@ rows =
     ∷ (Divide Unsigned Sixteen 8 7, 0x53 ∷ 0x87 ∷ [], 22)
     ∷ (Multiply Signed Sixteen 8 7, 0x01 ∷ 0xC0 ∷ 0x52 ∷ 0x87 ∷ [], 24)
     ∷ (Divide Signed Eight 8 9, 0x01 ∷ 0xD0 ∷ 0x51 ∷ 0x89 ∷ [], 16)
+    ∷ (Takes Btst (Numbered 7) (InPart 8), 0x73 ∷ 0x78 ∷ [], 2)
+    ∷ (Takes Btst (ByPart 8) (AtEr 1), 0x7C ∷ 0x10 ∷ 0x63 ∷ 0x80 ∷ [], 6)
+    ∷ (Takes Bior (Numbered 3) (AtAbs 0x40), 0x7E ∷ 0x40 ∷ 0x74 ∷ 0xB0 ∷ [], 6)
+    ∷ (Takes Bld (Numbered 0) (InPart 9), 0x77 ∷ 0x09 ∷ [], 2)
+    ∷ (Gives Bset (Numbered 3) (AtEr 1), 0x7D ∷ 0x10 ∷ 0x70 ∷ 0x30 ∷ [], 8)
+    ∷ (Gives Bnot (ByPart 8) (InPart 9), 0x61 ∷ 0x89 ∷ [], 2)
+    ∷ (Gives Bist (Numbered 7) (AtAbs 0xFF), 0x7F ∷ 0xFF ∷ 0x67 ∷ 0xF0 ∷ [], 8)
     ∷ (Alu Cmp Byte (Imm 0xFF) 8, 0xA8 ∷ 0xFF ∷ [], 2)
     ∷ (Alu Sub Word (Imm 0x1234) 1, 0x79 ∷ 0x31 ∷ 0x12 ∷ 0x34 ∷ [], 4)
     ∷ (Alu Mov Long (Imm 0x12345678) 7, 0x7A ∷ 0x07 ∷ 0x12 ∷ 0x34 ∷ 0x56 ∷ 0x78 ∷ [], 6)

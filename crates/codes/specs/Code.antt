@@ -1,13 +1,14 @@
 -- THE CODE LIST, document 01 "Codes": the bytes of each instruction. A table for each line of the document, in its order, with its text above it
 -- and the lines of document 002 that print the codes.
 -- Digits and bytes are numbers; `s · d` is the byte with the digits s and d. `none` and `[]` stand where there is no code: `Valid` leaves those out.
-use Prim.Native.Nat.{ℕ, _+_, _*_, _/_, _%_}
+use Prim.Native.Nat.{ℕ, _+_, _-_, _*_, _/_, _%_}
 use mathlib.Core.List.{List, [], _∷_}
 use lib.ListN.{length}
 use Rattle.codes.specs.Names.{Width, Byte, Word, Long, Op, Add, Sub, Cmp, Mov, Addx, Subx, Or, Xor, And, Reg, Imm, Way, Up, Down, By, One, Two, Four}
 use Rattle.codes.specs.Names.{Turn, Shll, Shlr, Rotxl, Rotxr, Shal, Shar, Rotl, Rotr, Single, Not, Neg, Extu, Exts, Half, Eight, Sixteen, Sign, Unsigned, Signed, Change, Orc, Xorc, Andc, Ldc}
+use Rattle.codes.specs.Names.{Take, Btst, Bor, Bior, Bxor, Bixor, Band, Biand, Bld, Bild, Give, Bset, Bnot, Bclr, Bst, Bist, Index, Numbered, ByPart, Spot, InPart, AtEr, AtAbs}
 use Rattle.codes.specs.Names.{Dir, Load, Store, Place, At, Step, Disp, Abs8, Abs16, Abs24, Reach, Near, Far, Target, ByReg, Direct, Vector}
-use Rattle.codes.specs.Names.{Instruction, Nop, Stc, LdcReg, Ccr, Alu, IncDec, AddsSubs, Decimal, Shift, Unary, Multiply, Divide, Move, Bcc, Jmp, Bsr, Jsr, Rts}
+use Rattle.codes.specs.Names.{Instruction, Nop, Stc, LdcReg, Ccr, Alu, IncDec, AddsSubs, Decimal, Shift, Unary, Multiply, Divide, Takes, Gives, Move, Bcc, Jmp, Bsr, Jsr, Rts}
 
 infixl 90 _·_
 -- the byte of two digits
@@ -159,6 +160,56 @@ abbrev pub productCode : Sign → ℕ → ℕ → ℕ → ℕ → List ℕ
 productCode Unsigned second first s d = word first (s · d)
 productCode Signed second first s d = 0x01 ∷ second ∷ word first (s · d)
 
+-- document 02, W4: the bit instructions. A byte register: the byte below, then the bit's number, 8 added for the inverted ones, and rd. @ER: 7C e0
+-- before that for one that reads, 7D e0 for one that writes; aa:8: 7E, 7F; rd is then 0. By a register's number BTST, BSET, BNOT, BCLR: 10 less.
+-- 002: BTST 1698-1703; BOR 1602, BIOR 1506; BXOR 1725, BIXOR 1542; BAND 1353, BIAND 1468; BLD 1561, BILD 1487; BSET 1621-1626; BNOT 1580-1585;
+-- BCLR 1446-1451; BST 1665, BIST 1525
+abbrev pub takeByte : Take → ℕ
+takeByte Btst = 0x73
+takeByte Bor = 0x74
+takeByte Bior = 0x74
+takeByte Bxor = 0x75
+takeByte Bixor = 0x75
+takeByte Band = 0x76
+takeByte Biand = 0x76
+takeByte Bld = 0x77
+takeByte Bild = 0x77
+
+abbrev pub takeSide : Take → ℕ
+takeSide Btst = 0
+takeSide Bor = 0
+takeSide Bior = 8
+takeSide Bxor = 0
+takeSide Bixor = 8
+takeSide Band = 0
+takeSide Biand = 8
+takeSide Bld = 0
+takeSide Bild = 8
+
+abbrev pub giveByte : Give → ℕ
+giveByte Bset = 0x70
+giveByte Bnot = 0x71
+giveByte Bclr = 0x72
+giveByte Bst = 0x67
+giveByte Bist = 0x67
+
+abbrev pub giveSide : Give → ℕ
+giveSide Bset = 0
+giveSide Bnot = 0
+giveSide Bclr = 0
+giveSide Bst = 0
+giveSide Bist = 8
+
+-- the word `byte`, `digit` and rd, or that word behind the one that names the byte in memory
+abbrev pub spotCode : ℕ → Spot → ℕ → ℕ → List ℕ
+spotCode lead (InPart d) byte digit = word byte (digit · d)
+spotCode lead (AtEr e) byte digit = lead ∷ e · 0 ∷ word byte (digit · 0)
+spotCode lead (AtAbs a) byte digit = (lead + 2) ∷ a ∷ word byte (digit · 0)
+
+abbrev pub bitCode : ℕ → Spot → Index → ℕ → ℕ → List ℕ
+bitCode lead spot (Numbered n) byte side = spotCode lead spot byte (side + n)
+bitCode lead spot (ByPart r) byte side = spotCode lead spot (byte - 0x10) r
+
 -- "Immediate byte, first digit 8 to F: ADD, ADDX, CMP, SUBX, OR, XOR, AND, MOV. 79 word and 7A long, next digit 0 to 6: MOV, ADD, CMP, SUB, OR,
 -- XOR, AND"
 -- 002: byte 1201, 1270, 1744, 3447, 2792, 3486, 1287, 2390; word 2425, 1218, 1761, 3395, 2809, 3503, 1304; long 2454, 1235, 1778, 3412, 2826,
@@ -256,6 +307,8 @@ codeOf (Shift turn w r) = shiftCode turn w r
 codeOf (Unary single w r) = unaryCode single w r
 codeOf (Multiply sign h s d) = productCode sign 0xC0 (unsignedMultiply h) s d
 codeOf (Divide sign h s d) = productCode sign 0xD0 (unsignedDivide h) s d
+codeOf (Takes take index spot) = bitCode 0x7C spot index (takeByte take) (takeSide take)
+codeOf (Gives give index spot) = bitCode 0x7D spot index (giveByte give) (giveSide give)
 codeOf (Alu op w (Imm v) d) = immCode op w v d
 codeOf (Move dir w p r) = moveCode dir w p r
 codeOf (Bcc c reach) = bccCode c reach

@@ -3,9 +3,10 @@
 -- What is not valid has a number here too, that of its neighbours; no promise rests on it.
 use Prim.Native.Nat.{ℕ}
 use Rattle.codes.specs.Names.{Width, Byte, Word, Long, Op, Add, Sub, Cmp, Mov, Addx, Subx, Or, Xor, And, Source, Reg, Imm}
+use Rattle.codes.specs.Names.{Take, Give, Index, Spot, InPart, AtEr, AtAbs}
 use Rattle.codes.specs.Names.{Half, Eight, Sixteen, Sign, Unsigned, Signed}
 use Rattle.codes.specs.Names.{Place, At, Step, Disp, Abs8, Abs16, Abs24, Reach, Near, Far, Target, ByReg, Direct, Vector}
-use Rattle.codes.specs.Names.{Instruction, Nop, Stc, LdcReg, Ccr, Alu, IncDec, AddsSubs, Decimal, Shift, Unary, Multiply, Divide, Move, Bcc, Jmp, Bsr, Jsr, Rts}
+use Rattle.codes.specs.Names.{Instruction, Nop, Stc, LdcReg, Ccr, Alu, IncDec, AddsSubs, Decimal, Shift, Unary, Multiply, Divide, Takes, Gives, Move, Bcc, Jmp, Bsr, Jsr, Rts}
 use Rattle.codes.specs.Names.{Goes, Onward, Branches, Jumps, CallsNear, Calls, Returns}
 
 -- register to register: 2; a long OR, XOR, AND: 4
@@ -89,6 +90,17 @@ abbrev pub productStates : Sign → Half → ℕ
 productStates Unsigned h = unsignedStates h
 productStates Signed h = signedStates h
 
+-- document 02, W4: a bit in a register 2; in memory 6 where it is read, 8 where it is read and written (002:4363-4456, 4398-4447)
+abbrev pub readBitStates : Spot → ℕ
+readBitStates (InPart d) = 2
+readBitStates (AtEr e) = 6
+readBitStates (AtAbs a) = 6
+
+abbrev pub writtenBitStates : Spot → ℕ
+writtenBitStates (InPart d) = 2
+writtenBitStates (AtEr e) = 8
+writtenBitStates (AtAbs a) = 8
+
 abbrev pub statesOf : Instruction → ℕ
 statesOf Nop = 2
 statesOf (Stc r) = 2
@@ -102,6 +114,8 @@ statesOf (Shift turn w r) = 2
 statesOf (Unary single w r) = 2
 statesOf (Multiply sign h s d) = productStates sign h
 statesOf (Divide sign h s d) = productStates sign h
+statesOf (Takes take index spot) = readBitStates spot
+statesOf (Gives give index spot) = writtenBitStates spot
 statesOf (Move dir w p r) = moveStates w p
 statesOf (Bcc c reach) = bccStates reach
 statesOf (Jmp target) = jmpStates target
@@ -123,6 +137,8 @@ goesOf (Shift turn w r) = Onward
 goesOf (Unary single w r) = Onward
 goesOf (Multiply sign h s d) = Onward
 goesOf (Divide sign h s d) = Onward
+goesOf (Takes take index spot) = Onward
+goesOf (Gives give index spot) = Onward
 goesOf (Move dir w p r) = Onward
 goesOf (Bcc c reach) = Branches c reach
 goesOf (Jmp target) = Jumps target

@@ -2,9 +2,10 @@
 -- Document 01, "Codes": "r is a register digit, e a digit 0 to 7 (its top bit zero in the code)".
 use Prim.Native.Nat.{ℕ, _<_}
 use Rattle.codes.specs.Names.{Width, Byte, Word, Long, Op, Add, Sub, Cmp, Mov, Addx, Subx, Or, Xor, And, Reg, Imm, By, One, Two, Four, Single, Not, Neg, Extu, Exts}
+use Rattle.codes.specs.Names.{Take, Btst, Bor, Bior, Bxor, Bixor, Band, Biand, Bld, Bild, Give, Bset, Bnot, Bclr, Bst, Bist, Index, Numbered, ByPart, Spot, InPart, AtEr, AtAbs}
 use Rattle.products.specs.Products.{factorWidth, productWidth}
 use Rattle.codes.specs.Names.{Place, At, Step, Disp, Abs8, Abs16, Abs24, Reach, Near, Far, Target, ByReg, Direct, Vector}
-use Rattle.codes.specs.Names.{Instruction, Nop, Stc, LdcReg, Ccr, Alu, IncDec, AddsSubs, Decimal, Shift, Unary, Multiply, Divide, Move, Bcc, Jmp, Bsr, Jsr, Rts}
+use Rattle.codes.specs.Names.{Instruction, Nop, Stc, LdcReg, Ccr, Alu, IncDec, AddsSubs, Decimal, Shift, Unary, Multiply, Divide, Takes, Gives, Move, Bcc, Jmp, Bsr, Jsr, Rts}
 
 -- a register's digit: r of a byte or a word, e of a long
 abbrev pub Digit : Width → ℕ → Type 0
@@ -65,6 +66,34 @@ HasUnary Neg w = Unit {0}
 HasUnary Extu w = NotByte w
 HasUnary Exts w = NotByte w
 
+-- a bit's number is 0 to 7, and BTST, BSET, BNOT and BCLR alone take it from a register too (002:879)
+abbrev pub TakesPart : Take → Type 0
+TakesPart Btst = Unit {0}
+TakesPart Bor = ⊥
+TakesPart Bior = ⊥
+TakesPart Bxor = ⊥
+TakesPart Bixor = ⊥
+TakesPart Band = ⊥
+TakesPart Biand = ⊥
+TakesPart Bld = ⊥
+TakesPart Bild = ⊥
+
+abbrev pub GivesPart : Give → Type 0
+GivesPart Bset = Unit {0}
+GivesPart Bnot = Unit {0}
+GivesPart Bclr = Unit {0}
+GivesPart Bst = ⊥
+GivesPart Bist = ⊥
+
+abbrev pub HasIndex : Type 0 → Index → Type 0
+HasIndex hasPart (Numbered n) = n < 8
+HasIndex hasPart (ByPart r) = hasPart × (r < 16)
+
+abbrev pub HasSpot : Spot → Type 0
+HasSpot (InPart d) = d < 16
+HasSpot (AtEr e) = e < 8
+HasSpot (AtAbs a) = a < 0x100
+
 -- aa:8 holds bytes only (document 01 has no word or long code for it)
 abbrev pub HasPlace : Width → Place → Type 0
 HasPlace w (At e) = e < 8
@@ -96,6 +125,8 @@ Valid (Shift turn w r) = Digit w r
 Valid (Unary single w r) = HasUnary single w × Digit w r
 Valid (Multiply sign h s d) = Digit (factorWidth h) s × Digit (productWidth h) d
 Valid (Divide sign h s d) = Digit (factorWidth h) s × Digit (productWidth h) d
+Valid (Takes take index spot) = HasIndex (TakesPart take) index × HasSpot spot
+Valid (Gives give index spot) = HasIndex (GivesPart give) index × HasSpot spot
 Valid (Alu op w (Imm v) d) = HasImm op w × Number w v × Digit w d
 Valid (Move dir w p r) = HasPlace w p × Digit w r
 Valid (Bcc c reach) = (c < 16) × HasReach reach

@@ -1,6 +1,6 @@
 // An instruction: a choice among document 01's groups, each with its own operand choice. A register is a digit of the code.
 ghost use mathlib.Core.Path.{_≡_};
-ghost use Rattle.codes.specs.States.{longStates, regStates, immStates, aluStates, shortMoveStates, longMoveStates, moveStates, bccStates, jmpStates, bsrStates, jsrStates, unsignedStates, signedStates, productStates, statesOf};
+ghost use Rattle.codes.specs.States.{longStates, regStates, immStates, aluStates, shortMoveStates, longMoveStates, moveStates, bccStates, jmpStates, bsrStates, jsrStates, unsignedStates, signedStates, productStates, readBitStates, writtenBitStates, statesOf};
 use arith::Width;
 use products::Half;
 use refusal::Refusal;
@@ -59,6 +59,41 @@ pub enum Sign {
     Signed,
 }
 
+// A bit instruction that reads its bit: BTST sets Z by it, the others C.
+pub enum Take {
+    Btst,
+    Bor,
+    Bior,
+    Bxor,
+    Bixor,
+    Band,
+    Biand,
+    Bld,
+    Bild,
+}
+
+// One that writes its bit.
+pub enum Give {
+    Bset,
+    Bnot,
+    Bclr,
+    Bst,
+    Bist,
+}
+
+// A bit's number: in the code, or in a byte register.
+pub enum Index {
+    Numbered(u8),
+    ByPart(u8),
+}
+
+// The byte that a bit is in: a byte register, or memory at @ER or aa:8.
+pub enum Spot {
+    InPart(u8),
+    AtEr(u8),
+    AtAbs(u8),
+}
+
 // What is done to the condition byte with an immediate byte.
 pub enum Change {
     Orc,
@@ -110,6 +145,8 @@ pub enum Instruction {
     // the source, then the destination
     Multiply(Sign, Half, u8, u8),
     Divide(Sign, Half, u8, u8),
+    Takes(Take, Index, Spot),
+    Gives(Give, Index, Spot),
     Move(Dir, Width, Place, u8),
     // the condition's digit, and where to
     Bcc(u8, Reach),
@@ -287,6 +324,26 @@ pub fn product_states(sign: Sign, h: Half) -> u32
     }
 }
 
+pub fn read_bit_states(spot: Spot) -> u32
+    ensures { λ r. ⌜ r ≡ readBitStates spot ⌝ }
+{
+    match spot {
+        Spot::InPart(_) => 2,
+        Spot::AtEr(_) => 6,
+        Spot::AtAbs(_) => 6,
+    }
+}
+
+pub fn written_bit_states(spot: Spot) -> u32
+    ensures { λ r. ⌜ r ≡ writtenBitStates spot ⌝ }
+{
+    match spot {
+        Spot::InPart(_) => 2,
+        Spot::AtEr(_) => 8,
+        Spot::AtAbs(_) => 8,
+    }
+}
+
 // The states of an instruction, all memory on chip.
 pub fn states(i: Instruction) -> u32
     ensures { λ r. ⌜ r ≡ statesOf i ⌝ }
@@ -304,6 +361,8 @@ pub fn states(i: Instruction) -> u32
         Instruction::Unary(_, _, _) => 2,
         Instruction::Multiply(sign, h, _, _) => product_states(sign, h),
         Instruction::Divide(sign, h, _, _) => product_states(sign, h),
+        Instruction::Takes(_, _, spot) => read_bit_states(spot),
+        Instruction::Gives(_, _, spot) => written_bit_states(spot),
         Instruction::Move(_, w, p, _) => move_states(w, p),
         Instruction::Bcc(_, reach) => bcc_states(reach),
         Instruction::Jmp(target) => jmp_states(target),

@@ -6,8 +6,9 @@ use mathlib.Core.Bool.{cond}
 use lib.Dec.{eqb, ltb}
 use Rattle.entry.specs.Names.{Width, Byte, Word, Long, Op, Add, Sub, Cmp, Mov, Addx, Subx, Or, Xor, And, Source, Reg, Imm, Way, Up, Down, By, One, Two, Four}
 use Rattle.entry.specs.Names.{Turn, Shll, Shlr, Rotxl, Rotxr, Shal, Shar, Rotl, Rotr, Single, Not, Neg, Extu, Exts, Half, Eight, Sixteen, Sign, Unsigned, Signed, Change, Orc, Xorc, Andc, Ldc}
+use Rattle.entry.specs.Names.{Take, Btst, Bor, Bior, Bxor, Bixor, Band, Biand, Bld, Bild, Give, Bset, Bnot, Bclr, Bst, Bist, Index, Numbered, ByPart, Spot, InPart, AtEr, AtAbs}
 use Rattle.entry.specs.Names.{Dir, Load, Store, Place, At, Step, Disp, Abs8, Abs16, Abs24, Reach, Near, Far, Target, ByReg, Direct, Vector}
-use Rattle.entry.specs.Names.{Instruction, Nop, Stc, LdcReg, Ccr, Alu, IncDec, AddsSubs, Decimal, Shift, Unary, Multiply, Divide, Move, Bcc, Jmp, Bsr, Jsr, Rts}
+use Rattle.entry.specs.Names.{Instruction, Nop, Stc, LdcReg, Ccr, Alu, IncDec, AddsSubs, Decimal, Shift, Unary, Multiply, Divide, Takes, Gives, Move, Bcc, Jmp, Bsr, Jsr, Rts}
 use Rattle.entry.specs.Names.{Decoded, Code, NoCode, UnknownCode, CutShort}
 
 -- ---- what an entry means: v is its variant, x its operands
@@ -167,6 +168,44 @@ jumps v x =
     (cond (eqb v 14) (Code (Divide Signed Eight (x / 16 % 16) (x % 16)) 4)
     (Code (Divide Signed Sixteen (x / 8 % 16) (x % 8)) 4)))))))))))))))
 
+-- kinds 16 to 19: a bit, read or written, of a byte register or of a byte in memory. The index is above the byte: a number of the code, or 16 and a
+-- register's digit; a byte in memory is an ER's digit, or 256 and aa:8
+abbrev pub takeAs : ℕ → Take
+takeAs v =
+    cond (eqb v 0) Btst
+    (cond (eqb v 1) Bor
+    (cond (eqb v 2) Bior
+    (cond (eqb v 3) Bxor
+    (cond (eqb v 4) Bixor
+    (cond (eqb v 5) Band
+    (cond (eqb v 6) Biand
+    (cond (eqb v 7) Bld Bild)))))))
+
+abbrev pub giveAs : ℕ → Give
+giveAs v =
+    cond (eqb v 0) Bset
+    (cond (eqb v 1) Bnot
+    (cond (eqb v 2) Bclr
+    (cond (eqb v 3) Bst Bist)))
+
+unfoldable pub indexAs : ℕ → Index
+indexAs i = cond (ltb i 16) (Numbered (i % 8)) (ByPart (i % 16))
+
+unfoldable pub spotAs : ℕ → Spot
+spotAs s = cond (ltb s 256) (AtEr (s % 8)) (AtAbs (s % 256))
+
+unfoldable pub takenIn : ℕ → ℕ → Decoded
+takenIn v x = Code (Takes (takeAs v) (indexAs (x / 16 % 32)) (InPart (x % 16))) 2
+
+unfoldable pub givenIn : ℕ → ℕ → Decoded
+givenIn v x = Code (Gives (giveAs v) (indexAs (x / 16 % 32)) (InPart (x % 16))) 2
+
+unfoldable pub takenAt : ℕ → ℕ → Decoded
+takenAt v x = Code (Takes (takeAs v) (indexAs (x / 512 % 32)) (spotAs (x % 512))) 4
+
+unfoldable pub givenAt : ℕ → ℕ → Decoded
+givenAt v x = Code (Gives (giveAs v) (indexAs (x / 512 % 32)) (spotAs (x % 512))) 4
+
 -- by its kind k; a kind that is not there is no code
 unfoldable pub byKind : ℕ → ℕ → ℕ → ℕ → Decoded
 byKind p k v x =
@@ -185,7 +224,11 @@ byKind p k v x =
     (cond (eqb k 12) (moved Long 8 4 v x)
     (cond (eqb k 13) (branchNear v x)
     (cond (eqb k 14) (branchFar v x)
-    (cond (eqb k 15) (jumps v x) (NoCode (UnknownCode p)))))))))))))))))
+    (cond (eqb k 15) (jumps v x)
+    (cond (eqb k 16) (takenIn v x)
+    (cond (eqb k 17) (givenIn v x)
+    (cond (eqb k 18) (takenAt v x)
+    (cond (eqb k 19) (givenAt v x) (NoCode (UnknownCode p)))))))))))))))))))))
 
 -- THE MEANING: what the entry e at the place p stands for
 unfoldable pub meaningOf : ℕ → ℕ → Decoded
@@ -324,6 +367,34 @@ abbrev pub factors : Half → ℕ → ℕ → ℕ
 factors Eight s d = s * 16 + d
 factors Sixteen s d = s * 8 + d
 
+abbrev pub takeNumber : Take → ℕ
+takeNumber Btst = 0
+takeNumber Bor = 1
+takeNumber Bior = 2
+takeNumber Bxor = 3
+takeNumber Bixor = 4
+takeNumber Band = 5
+takeNumber Biand = 6
+takeNumber Bld = 7
+takeNumber Bild = 8
+
+abbrev pub giveNumber : Give → ℕ
+giveNumber Bset = 0
+giveNumber Bnot = 1
+giveNumber Bclr = 2
+giveNumber Bst = 3
+giveNumber Bist = 4
+
+abbrev pub indexNumber : Index → ℕ
+indexNumber (Numbered n) = n
+indexNumber (ByPart r) = 16 + r
+
+-- k is the kind of a byte register
+abbrev pub bitEntry : ℕ → ℕ → Index → Spot → ℕ
+bitEntry k v index (InPart d) = made k v (indexNumber index * 16 + d)
+bitEntry k v index (AtEr e) = made (k + 2) v (indexNumber index * 512 + e)
+bitEntry k v index (AtAbs a) = made (k + 2) v (indexNumber index * 512 + (256 + a))
+
 unfoldable pub packOf : Instruction → ℕ
 packOf Nop = made 9 0 0
 packOf (Stc d) = made 9 1 d
@@ -337,6 +408,8 @@ packOf (Shift turn w d) = shiftEntry turn w d
 packOf (Unary single w d) = unaryEntry single w d
 packOf (Multiply sign h s d) = made 15 (productNumber sign h) (factors h s d)
 packOf (Divide sign h s d) = made 15 (productNumber sign h + 4) (factors h s d)
+packOf (Takes take index spot) = bitEntry 16 (takeNumber take) index spot
+packOf (Gives give index spot) = bitEntry 17 (giveNumber give) index spot
 packOf (Move dir w p r) = moveEntry dir w p r
 packOf (Bcc c reach) = bccEntry c reach
 packOf (Jmp target) = jmpEntry target

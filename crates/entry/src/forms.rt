@@ -2,17 +2,19 @@
 use crate::numbers;
 use arith::Width;
 use codes::Dir;
+use codes::Index;
 use codes::Op;
 use codes::Place;
 use codes::Reach;
 use codes::Single;
 use codes::Source;
+use codes::Spot;
 use codes::Target;
 use codes::Turn;
 use products::Half;
 ghost use mathlib.Core.Path.{_≡_};
 ghost use Prim.Native.Nat.{_+_, _*_, _<_};
-ghost use Rattle.entry.specs.Entry.{made, digitsOf, factors, regEntry, immEntry, aluEntry, shiftEntry, unaryEntry, moveEntry, bccEntry, jmpEntry, bsrEntry, jsrEntry};
+ghost use Rattle.entry.specs.Entry.{made, digitsOf, factors, regEntry, immEntry, aluEntry, shiftEntry, unaryEntry, moveEntry, bccEntry, jmpEntry, bsrEntry, jsrEntry, indexNumber, bitEntry};
 
 // kind k, variant v, operands x
 pub fn build(k: u8, v: u8, x: u64) -> u64
@@ -156,5 +158,28 @@ pub fn jsr_entry(target: Target) -> u64
         Target::ByReg(e) => build(15, 5, e as u64),
         Target::Direct(a) => build(15, 6, a as u64),
         Target::Vector(a) => build(15, 7, a as u64),
+    }
+}
+
+// A number of the code, or a register's digit behind those.
+fn index_number(index: Index) -> u64
+    ensures { λ n. ⌜ (n ≡ indexNumber index) × (n < 272) ⌝ }
+{
+    match index {
+        Index::Numbered(n) => n as u64,
+        Index::ByPart(r) => 16 + r as u64,
+    }
+}
+
+// k is the kind of a byte register, and k + 2 that of a byte in memory.
+pub fn bit_entry(k: u8, v: u8, index: Index, spot: Spot) -> u64
+    requires { ⌜ k < 30 ⌝ }
+    ensures { λ e. ⌜ e ≡ bitEntry k v index spot ⌝ }
+{
+    let i = index_number(index);
+    match spot {
+        Spot::InPart(d) => build(k, v, i * 16 + d as u64),
+        Spot::AtEr(e) => build(k + 2, v, i * 512 + e as u64),
+        Spot::AtAbs(a) => build(k + 2, v, i * 512 + (256 + a as u64)),
     }
 }

@@ -44,6 +44,18 @@ pub fn pack(i: Instruction) -> u64
             numbers::product_number(sign, h) + 4,
             forms::factors_of(h, s, d),
         ),
+        Instruction::Takes(take, index, spot) => forms::bit_entry(
+            16,
+            numbers::take_number(take),
+            index,
+            spot,
+        ),
+        Instruction::Gives(give, index, spot) => forms::bit_entry(
+            17,
+            numbers::give_number(give),
+            index,
+            spot,
+        ),
         Instruction::Move(dir, w, p, r) => forms::move_entry(dir, w, p, r),
         Instruction::Bcc(c, reach) => forms::bcc_entry(c, reach),
         Instruction::Jmp(target) => forms::jmp_entry(target),

@@ -3,8 +3,10 @@ use arith::Width;
 use codes::By;
 use codes::Change;
 use codes::Dir;
+use codes::Give;
 use codes::Op;
 use codes::Sign;
+use codes::Take;
 use codes::Turn;
 use codes::Way;
 use products::Half;
@@ -12,7 +14,7 @@ ghost use mathlib.Core.Path.{_≡_};
 ghost use Prim.Native.Nat.{_<_};
 ghost use Rattle.arith.specs.declared.Width.the-variants.{Word, Long};
 ghost use Rattle.codes.specs.declared.Sign.the-variants.{Unsigned, Signed};
-ghost use Rattle.entry.specs.Entry.{opNumber, wayNumber, countNumber, byNumber, turnNumber, widthNumber, changeNumber, dirNumber, productNumber};
+ghost use Rattle.entry.specs.Entry.{opNumber, wayNumber, countNumber, byNumber, turnNumber, widthNumber, changeNumber, dirNumber, productNumber, takeNumber, giveNumber};
 
 pub fn op_number(op: Op) -> u8
     ensures { λ n. ⌜ n ≡ opNumber op ⌝ }
@@ -148,5 +150,33 @@ pub fn product_number(sign: Sign, h: Half) -> u8
     match sign {
         Sign::Unsigned => unsigned_number(h),
         Sign::Signed => signed_number(h),
+    }
+}
+
+pub fn take_number(take: Take) -> u8
+    ensures { λ n. ⌜ n ≡ takeNumber take ⌝ }
+{
+    match take {
+        Take::Btst => 0,
+        Take::Bor => 1,
+        Take::Bior => 2,
+        Take::Bxor => 3,
+        Take::Bixor => 4,
+        Take::Band => 5,
+        Take::Biand => 6,
+        Take::Bld => 7,
+        Take::Bild => 8,
+    }
+}
+
+pub fn give_number(give: Give) -> u8
+    ensures { λ n. ⌜ n ≡ giveNumber give ⌝ }
+{
+    match give {
+        Give::Bset => 0,
+        Give::Bnot => 1,
+        Give::Bclr => 2,
+        Give::Bst => 3,
+        Give::Bist => 4,
     }
 }

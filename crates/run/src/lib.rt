@@ -91,6 +91,10 @@ fn repeat(
             13 => execute::branch_near(k, x, pc, f),
             14 => execute::branch_far(k, x, pc, f),
             15 => transfer::jump(k, x, pc, &mut er, f, b, rom, ram),
+            16 => bitturns::take(k, x, pc, &er, f),
+            17 => bitturns::give(k, x, pc, &mut er, f),
+            18 => bitturns::take_at(k, x, pc, &er, f, b, rom, &ram[..]),
+            19 => bitturns::give_at(k, x, pc, &er, f, b, rom, ram),
             _ => turns::refuse(f, Refusal::UnknownCode(pc)),
         };
         let o = t.outcome;

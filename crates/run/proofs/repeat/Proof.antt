@@ -1,4 +1,4 @@
-use Prim.Native.Nat.{ℕ, _-_, _*_, _≤_}
+use Prim.Native.Nat.{ℕ, _-_, _*_, _/_, _%_, _≤_}
 use mathlib.Core.Path.{_≡_, refl, sym, _∙_, ap}
 use mathlib.Core.Bool.{true, _&&_}
 use mathlib.Core.List.{List}
@@ -7,7 +7,6 @@ use native.Mathlib.Nat.{sub-zero}
 use native.Mathlib.Omega.{arith}
 use lib.ListN.{length}
 use borrow.Author.Needs.{needs}
-use borrow.Author.Tests.{ne-eqb}
 use Rattle.refusal.specs.declared.Outcome.the-variants.{Done}
 use Rattle.registers.specs.Lent.{lent}
 use Rattle.memory.specs.Board.{goodBoard}
@@ -17,7 +16,7 @@ use Rattle.turns.specs.MirrorTurn.{toldIn}
 use Rattle.turns.proofs.Laws.{refused-stays}
 use Rattle.run.specs.MirrorKept.{Keeps}
 use Rattle.run.specs.Run.{runFrom}
-use Rattle.run.proofs.Turns.{outside, by-kind, turn-done, turn-refused, same-registers, same-memory, pc-fits, stops, spent, length-kept, still-good, goes-on, refused}
+use Rattle.run.proofs.Turns.{no-kind, outside, by-kind, turn-done, turn-refused, same-registers, same-memory, pc-fits, stops, spent, length-kept, still-good, goes-on, refused}
 use Rattle.run.proofs.kept.look.Reads as look-reads
 use Rattle.execute.proofs.reg_byte.Reads as reg-byte-reads
 use Rattle.execute.proofs.reg_word.Reads as reg-word-reads
@@ -35,6 +34,10 @@ use Rattle.transfer.proofs.moving.long.Reads as long-reads
 use Rattle.execute.proofs.branch_near.Reads as branch-near-reads
 use Rattle.execute.proofs.branch_far.Reads as branch-far-reads
 use Rattle.transfer.proofs.jump.Reads as jump-reads
+use Rattle.bitturns.proofs.take.Reads as take-reads
+use Rattle.bitturns.proofs.give.Reads as give-reads
+use Rattle.bitturns.proofs.take_at.Reads as take-at-reads
+use Rattle.bitturns.proofs.give_at.Reads as give-at-reads
 use Rattle.turns.proofs.refuse.Reads as refuse-reads
 use Rattle.registers.proofs.pc.Reads as pc-reads
 use Rattle.run.proofs.repeat.Reads as reads
@@ -51,7 +54,7 @@ abbrev μ-loop : tie.MeasureT-loop
 
 -- where the arms of the match meet
 abbrev Met : Type 0
-Met = lts.At-match-came (look-reads.Asked, look-reads.Learnt, reg-byte-reads.Asked, reg-byte-reads.Learnt, reg-word-reads.Asked, reg-word-reads.Learnt, reg-long-reads.Asked, reg-long-reads.Learnt, imm-byte-reads.Asked, imm-byte-reads.Learnt, imm-word-reads.Asked, imm-word-reads.Learnt, imm-long-reads.Asked, imm-long-reads.Learnt, counted-reads.Asked, counted-reads.Learnt, turned-reads.Asked, turned-reads.Learnt, turned-long-reads.Asked, turned-long-reads.Learnt, single-reads.Asked, single-reads.Learnt, byte-reads.Asked, byte-reads.Learnt, word-reads.Asked, word-reads.Learnt, long-reads.Asked, long-reads.Learnt, branch-near-reads.Asked, branch-near-reads.Learnt, branch-far-reads.Asked, branch-far-reads.Learnt, jump-reads.Asked, jump-reads.Learnt, refuse-reads.Asked, refuse-reads.Learnt, pc-reads.Asked, pc-reads.Learnt) reads.Pre reads.Post Inv-loop μ-loop
+Met = lts.At-match-came (look-reads.Asked, look-reads.Learnt, reg-byte-reads.Asked, reg-byte-reads.Learnt, reg-word-reads.Asked, reg-word-reads.Learnt, reg-long-reads.Asked, reg-long-reads.Learnt, imm-byte-reads.Asked, imm-byte-reads.Learnt, imm-word-reads.Asked, imm-word-reads.Learnt, imm-long-reads.Asked, imm-long-reads.Learnt, counted-reads.Asked, counted-reads.Learnt, turned-reads.Asked, turned-reads.Learnt, turned-long-reads.Asked, turned-long-reads.Learnt, single-reads.Asked, single-reads.Learnt, byte-reads.Asked, byte-reads.Learnt, word-reads.Asked, word-reads.Learnt, long-reads.Asked, long-reads.Learnt, branch-near-reads.Asked, branch-near-reads.Learnt, branch-far-reads.Asked, branch-far-reads.Learnt, jump-reads.Asked, jump-reads.Learnt, take-reads.Asked, take-reads.Learnt, give-reads.Asked, give-reads.Learnt, take-at-reads.Asked, take-at-reads.Learnt, give-at-reads.Asked, give-at-reads.Learnt, refuse-reads.Asked, refuse-reads.Learnt, pc-reads.Asked, pc-reads.Learnt) reads.Pre reads.Post Inv-loop μ-loop
 
 -- whichever group was called, it left what the step leaves
 turned : (c : Met) → (
@@ -80,7 +83,11 @@ turned c =
     (⊎-elim (λ w. simp (w .2, w .3, w .4) (by 13 (w .0 .keys14) _ (w .1 .ensures (s .er) (a .b) (a .rom .now) (s .ram))))
     (⊎-elim (λ w. simp (w .2, w .3, w .4) (by 14 (w .0 .keys15) _ (w .1 .ensures (s .er) (a .b) (a .rom .now) (s .ram))))
     (⊎-elim (λ w. simp (w .6, w .7, w .8) (by 15 (w .0 .keys16) _ (w .3 .ensures)))
-    (λ w. simp (w .2, w .3, w .4, w .1 .ensures) (by _ refl _ (simp (ne-eqb _ _ (w .0 .rest .0 .0 .0 .0 .0 .0 .0 .0 .0 .0 .0 .0 .0 .0 .0 .1), ne-eqb _ _ (w .0 .rest .0 .0 .0 .0 .0 .0 .0 .0 .0 .0 .0 .0 .0 .0 .1), ne-eqb _ _ (w .0 .rest .0 .0 .0 .0 .0 .0 .0 .0 .0 .0 .0 .0 .0 .1), ne-eqb _ _ (w .0 .rest .0 .0 .0 .0 .0 .0 .0 .0 .0 .0 .0 .0 .1), ne-eqb _ _ (w .0 .rest .0 .0 .0 .0 .0 .0 .0 .0 .0 .0 .0 .1), ne-eqb _ _ (w .0 .rest .0 .0 .0 .0 .0 .0 .0 .0 .0 .0 .1), ne-eqb _ _ (w .0 .rest .0 .0 .0 .0 .0 .0 .0 .0 .0 .1), ne-eqb _ _ (w .0 .rest .0 .0 .0 .0 .0 .0 .0 .0 .1), ne-eqb _ _ (w .0 .rest .0 .0 .0 .0 .0 .0 .0 .1), ne-eqb _ _ (w .0 .rest .0 .0 .0 .0 .0 .0 .1), ne-eqb _ _ (w .0 .rest .0 .0 .0 .0 .0 .1), ne-eqb _ _ (w .0 .rest .0 .0 .0 .0 .1), ne-eqb _ _ (w .0 .rest .0 .0 .0 .1), ne-eqb _ _ (w .0 .rest .0 .0 .1), ne-eqb _ _ (w .0 .rest .0 .1), ne-eqb _ _ (w .0 .rest .1), refused-stays)))))))))))))))))))
+    (⊎-elim (λ w. simp (w .3, w .4, w .5) (by 16 (w .0 .keys17) _ (w .2 .ensures (a .b) (a .rom .now) (s .ram))))
+    (⊎-elim (λ w. simp (w .3, w .4, w .5) (by 17 (w .0 .keys18) _ (w .2 .ensures (a .b) (a .rom .now) (s .ram))))
+    (⊎-elim (λ w. simp (w .4, w .5, w .6) (by 18 (w .0 .keys19) _ (w .3 .ensures)))
+    (⊎-elim (λ w. simp (w .6, w .7, w .8) (by 19 (w .0 .keys20) _ (w .3 .ensures)))
+    (λ w. simp (w .2, w .3, w .4, w .1 .ensures) (by _ refl _ (simp (no-kind (s .pc) (e .result / 16 % 32) (e .result % 16) (e .result / 512) (w .0 .rest .0 .0 .0 .0 .0 .0 .0 .0 .0 .0 .0 .0 .0 .0 .0 .0 .0 .0 .0 .1) (w .0 .rest .0 .0 .0 .0 .0 .0 .0 .0 .0 .0 .0 .0 .0 .0 .0 .0 .0 .0 .1) (w .0 .rest .0 .0 .0 .0 .0 .0 .0 .0 .0 .0 .0 .0 .0 .0 .0 .0 .0 .1) (w .0 .rest .0 .0 .0 .0 .0 .0 .0 .0 .0 .0 .0 .0 .0 .0 .0 .0 .1) (w .0 .rest .0 .0 .0 .0 .0 .0 .0 .0 .0 .0 .0 .0 .0 .0 .0 .1) (w .0 .rest .0 .0 .0 .0 .0 .0 .0 .0 .0 .0 .0 .0 .0 .0 .1) (w .0 .rest .0 .0 .0 .0 .0 .0 .0 .0 .0 .0 .0 .0 .0 .1) (w .0 .rest .0 .0 .0 .0 .0 .0 .0 .0 .0 .0 .0 .0 .1) (w .0 .rest .0 .0 .0 .0 .0 .0 .0 .0 .0 .0 .0 .1) (w .0 .rest .0 .0 .0 .0 .0 .0 .0 .0 .0 .0 .1) (w .0 .rest .0 .0 .0 .0 .0 .0 .0 .0 .0 .1) (w .0 .rest .0 .0 .0 .0 .0 .0 .0 .0 .1) (w .0 .rest .0 .0 .0 .0 .0 .0 .0 .1) (w .0 .rest .0 .0 .0 .0 .0 .0 .1) (w .0 .rest .0 .0 .0 .0 .0 .1) (w .0 .rest .0 .0 .0 .0 .1) (w .0 .rest .0 .0 .0 .1) (w .0 .rest .0 .0 .1) (w .0 .rest .0 .1) (w .0 .rest .1), refused-stays)))))))))))))))))))))))
     (c .match .came)
 
 pub repeat-spec : {M : Type 1} → statement M
@@ -91,6 +98,7 @@ repeat-spec =
     (λ c. let a = c .before .before .before .before .before .before .before .before .args in let s = c .before .before .loop in let h = pc-fits (goodBoard (a .b) (length (a .rom .now)) (length (s .ram))) (s .pc) (s .inv .5) in omega arith)
     (λ c κs. let a = c .before .before .before .before .before .before .before .before .before .before .args in let s = c .before .before .before .before .loop in let h = pc-fits (goodBoard (a .b) (length (a .rom .now)) (length (s .ram))) (s .pc) (s .inv .5) in (c .before .if3 .left, h .0, h .1, s .inv .6))
     (λ c. search needs) (λ c κs. search needs) (λ c κs. search needs) (λ c κs. search needs) (λ c κs. search needs) (λ c κs. search needs)
+    (λ c κs. search needs) (λ c κs. search needs) (λ c κs. search needs) (λ c κs. search needs)
     (λ c κs. search needs) (λ c κs. search needs) (λ c κs. search needs) (λ c κs. search needs) (λ c κs. search needs) (λ c κs. search needs)
     (λ c κs. search needs) (λ c κs. search needs) (λ c κs. search needs) (λ c κs. search needs) (λ c κs. search needs) (λ c κs. search needs)
     (λ c. search needs) (λ c. search needs) (λ c κs. search needs) (λ c. search needs) (λ c. search needs) (λ c. search needs) (λ c. search needs)
@@ -105,7 +113,7 @@ repeat-spec =
       search needs,
       length-kept (a .b) (a .rom .now) (a .stop) (s .ram) r (s .steps) (s .states) (s .inv .5) n (m .match .ram) e refl ∙ s .inv .1,
       omega (arith, s .inv .2, m .before .before .before .before .before .before .if2 .left),
-      search needs,
+      omega (arith, s .inv .3),
       sym (goes-on (a .b) (a .rom .now) (a .stop) (s .ram) r (s .steps) (s .states) (s .inv .5) n (m .match .ram) e (a .budget) (m .before .before .before .before .before .before .before .if1 .left) (s .inv .2) (m .before .before .before .before .before .before .if2 .left) refl) ∙ s .inv .4,
       still-good (a .b) (a .rom .now) (a .stop) (s .ram) r (s .steps) (s .states) (s .inv .5) n (m .match .ram) e refl,
       m .before .before .before .look .ensures .1,
