@@ -4,7 +4,9 @@ use Prim.Native.Nat.{ℕ, _+_, _*_, _%_}
 use mathlib.Core.List.{List}
 use lib.Dec.{ltb, eqb}
 use lib.ListN.{length, getD, drop}
-use Rattle.decoder.specs.Names.{Word, Long, Imm, Disp, Abs16, Abs24, Far, Direct, Instruction, Alu, Move, Bcc, Jmp, Bsr, Jsr, Decoded, Code, NoCode, UnknownCode, CutShort}
+use Rattle.left.specs.Left.{groupIn, leftOut}
+use Rattle.left.specs.Unheld.{unheldOf}
+use Rattle.decoder.specs.Names.{Word, Long, Imm, Disp, Abs16, Abs24, Far, Direct, Instruction, Alu, Move, Bcc, Jmp, Bsr, Jsr, Decoded, Code, NoCode, CutShort}
 use Rattle.decoder.specs.Names.{Rest, Imm16, Imm32, Disp16, Aa16, Aa24, Bcc16, Bsr16, Jmp24, Jsr24, Plan, Whole, Lacks, Nothing, Tail, Bits16, Bits24, Bits32, Found, Is, Cut, Unlisted}
 use Rattle.decoder.specs.MirrorWords.{pick, planOf, afterOf}
 
@@ -102,10 +104,10 @@ plannedOf s =
     pick (eqb (getD s 0 0) 1) (afterOf (getD s 1 0) (getD s 2 0) (getD s 3 0))
     (planOf (getD s 0 0) (getD s 1 0))
 
-abbrev pub placedOf : ℕ → Found → Decoded
-placedOf place (Is i n) = Code i n
-placedOf place Cut = NoCode (CutShort place)
-placedOf place Unlisted = NoCode (UnknownCode place)
+abbrev pub placedOf : ℕ → List ℕ → Found → Decoded
+placedOf place s (Is i n) = Code i n
+placedOf place s Cut = NoCode (CutShort place)
+placedOf place s Unlisted = NoCode (unheldOf place (groupIn leftOut s))
 
 abbrev pub decodeOf : ℕ → List ℕ → Decoded
-decodeOf place s = placedOf place (foundOf s)
+decodeOf place s = placedOf place s (foundOf s)

@@ -1,11 +1,13 @@
--- Laws for callers: a valid instruction, packed, means itself, and its entry is a small number; the two entries that are no code.
+-- Laws for callers: a valid instruction, packed, means itself, and its entry is a small number; the entries that are no code.
 use Prim.Native.Nat.{ℕ, _/_, _%_, _<_}
 use mathlib.Core.Path.{_≡_, refl, _∙_}
+use native.Mathlib.Nat.{mod-eq-of-lt}
 use native.Mathlib.Omega.{arith}
+use Rattle.left.specs.Unheld.{unheldOf}
 use Rattle.codes.specs.Code.{lengthOf}
 use Rattle.codes.specs.Valid.{Valid}
-use Rattle.entry.specs.Names.{Instruction, Code, NoCode, UnknownCode, CutShort}
-use Rattle.entry.specs.Entry.{single, byKind, meaningOf, made, unknownEntry, cutEntry, packOf}
+use Rattle.entry.specs.Names.{Instruction, Code, NoCode, CutShort}
+use Rattle.entry.specs.Entry.{single, byKind, meaningOf, made, unheldEntry, cutEntry, packOf}
 use Rattle.entry.proofs.Backs.{Form, form, backs}
 
 -- the fields of an entry
@@ -36,9 +38,15 @@ packed p i h = form-means (backs i h) p
 pub small : (i : Instruction) → Valid i → packOf i < 17592186044416
 small i h = form-small (backs i h)
 
-pub unknown-means : (p : ℕ) → meaningOf p unknownEntry ≡ NoCode (UnknownCode p)
-unfolding meaningOf byKind single
-unknown-means p = refl
+pub unheld-means : (p g : ℕ) → g < 256 → meaningOf p (unheldEntry g) ≡ NoCode (unheldOf p g)
+unheld-means p g h = means 9 14 g (omega arith) (omega arith) p ∙ unheld-kind
+  where
+    unheld-kind : byKind p 9 14 g ≡ NoCode (unheldOf p g)
+    unfolding byKind single
+    unheld-kind = rw (mod-eq-of-lt h)
+
+pub unheld-small : (g : ℕ) → g < 256 → unheldEntry g < 17592186044416
+unheld-small g h = below 9 14 g (omega arith) (omega arith) (omega arith)
 
 pub cut-means : (p : ℕ) → meaningOf p cutEntry ≡ NoCode (CutShort p)
 unfolding meaningOf byKind single

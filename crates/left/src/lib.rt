@@ -102,14 +102,20 @@ pub fn group(s: &[u8]) -> u8
     find(&t, s)
 }
 
-// The refusal of bytes at a place that the set doesn't hold: 15, or 3 where no code begins them and they begin none.
-pub fn unheld(s: &[u8], place: u32) -> Refusal
-    ensures { λ f. ⌜ f ≡ unheldOf place (groupIn leftOut (now (s .entry))) ⌝ }
+// The refusal at a place by its group, which is 0 for none.
+pub fn refusal(place: u32, g: u8) -> Refusal
+    ensures { λ f. ⌜ f ≡ unheldOf place g ⌝ }
 {
-    let g = group(s);
     if g == 0 {
         Refusal::UnknownCode(place)
     } else {
         Refusal::LeftOut(place, g)
     }
+}
+
+// The refusal of bytes at a place that the set doesn't hold: 15, or 3 where no code begins them and they begin none.
+pub fn unheld(s: &[u8], place: u32) -> Refusal
+    ensures { λ f. ⌜ f ≡ unheldOf place (groupIn leftOut (now (s .entry))) ⌝ }
+{
+    refusal(place, group(s))
 }
