@@ -9,14 +9,15 @@ use lib.Dec.{ltb, eqb}
 use borrow.Author.Tests.{eqb-true, ltb-true, ltb-false, eqb-false}
 use Rattle.decoder.specs.Names.{Width, Byte, Word, Long, Op, Add, Sub, Cmp, Mov, Or, Xor, And, Reg, Way, Up, Down, One, Two, Four, Turn, Shll}
 use Rattle.decoder.specs.Names.{Shlr, Rotxl, Rotxr, Shal, Shar, Rotl, Rotr, Not, Neg, Extu, Exts, Half, Eight, Sixteen, Sign, Unsigned, Signed, Dir, Load, Store, Place, At, Step, Disp, Abs16}
+use Rattle.decoder.specs.Names.{Spot, InPart, AtEr, AtAbs}
 use Rattle.decoder.specs.Names.{Abs24, ByReg, Instruction, Alu, IncDec, AddsSubs, Shift, Unary, Multiply, Divide, Move, Jmp, Jsr, Rest, Plan, Whole, Lacks}
 use Rattle.decoder.specs.Names.{Nothing, Mode, Plain, Stepping, Displaced, Absolute, Tail, Bits16, Bits24, Bits32}
-use Rattle.codes.specs.Code.{_·_, be16, be24, wayDigit, digit013, digit89B, firstDigit, nextDigit, dirDigit, codeOf}
+use Rattle.codes.specs.Code.{_·_, be16, be24, wayDigit, digit013, digit89B, spotCode, firstDigit, nextDigit, dirDigit, codeOf}
 use Rattle.products.specs.Products.{factorWidth, productWidth}
-use Rattle.codes.specs.Valid.{Digit, HasReg, HasImm, HasPlace, Valid}
+use Rattle.codes.specs.Valid.{Digit, HasReg, HasImm, HasSpot, HasPlace, Valid}
 use Rattle.decoder.specs.MirrorDecode.{tailOf, fillOf}
-use Rattle.decoder.specs.MirrorWords.{pick, below, held, regReg, longReg, incDecOf, shiftOf, unaryOf, row0, row1, bccDigit, row5, memoryOf, row6, firstOp}
-use Rattle.decoder.specs.MirrorWords.{nextOp, row7, planOf, longMemory, longLogic, after00, afterC0, afterD0, afterF0, afterOf}
+use Rattle.decoder.specs.MirrorWords.{pick, exactly, below, eZero, held, regReg, longReg, incDecOf, shiftOf, unaryOf, row0, row1, bccDigit, row5, memoryOf, readsOf, writesOf, readsPart, writesPart, row6, firstOp}
+use Rattle.decoder.specs.MirrorWords.{nextOp, row7, planOf, longMemory, longLogic, after00, afterC0, afterD0, afterF0, after01, readsMemory, writesMemory, afterOf}
 
 -- ---- a plan is good after the bytes pre and for the word a b: what it makes is an instruction, and its code is those bytes
 
@@ -53,7 +54,7 @@ if≡ P x k {u} {v} f g = go (eqb x k) refl
     go true e = f (eqb-true x k e)
     go false e = g (eqb-false x k e)
 
-if< : {A : Type 0} (P : A → Type 0) (x k : ℕ) {u v : A} → (x < k → P u) → (k ≤ x → P v) → P (pick (ltb x k) u v)
+pub if< : {A : Type 0} (P : A → Type 0) (x k : ℕ) {u v : A} → (x < k → P u) → (k ≤ x → P v) → P (pick (ltb x k) u v)
 if< P x k {u} {v} f g = go (ltb x k) refl
   where
     go : (t : Bool) → ltb x k ≡ t → P (pick t u v)
@@ -63,7 +64,7 @@ if< P x k {u} {v} f g = go (ltb x k) refl
 two≡ : {a b c d : ℕ} → a ≡ c → b ≡ d → a ∷ b ∷ [] ≡ c ∷ d ∷ []
 two≡ p q = ap₂ (λ x y. x ∷ y ∷ []) p q
 
-four≡ : (pre : List ℕ) {a b x y a' b' x' y' : ℕ} → a ≡ a' → b ≡ b' → x ≡ x' → y ≡ y' → pre ++ (a ∷ b ∷ x ∷ y ∷ []) ≡ pre ++ (a' ∷ b' ∷ x' ∷ y' ∷ [])
+pub four≡ : (pre : List ℕ) {a b x y a' b' x' y' : ℕ} → a ≡ a' → b ≡ b' → x ≡ x' → y ≡ y' → pre ++ (a ∷ b ∷ x ∷ y ∷ []) ≡ pre ++ (a' ∷ b' ∷ x' ∷ y' ∷ [])
 four≡ pre p q r t = λ i. pre ++ (p i ∷ q i ∷ r i ∷ t i ∷ [])
 
 six≡ : (pre : List ℕ) {a b x y z a' b' x' y' z' : ℕ} → a ≡ a' → b ≡ b' → x ≡ x' → y ≡ y' → z ≡ z'
@@ -81,6 +82,41 @@ product-good pre a b hb Sixteen make v f =
     if< (Good pre a b) (b % 16) 8
     (λ k. (v (b / 16) (b % 16) (omega arith) k, f (b / 16) (b % 16) ∙ ap (λ x. pre ++ (a ∷ x ∷ [])) (omega arith)))
     (λ k. tt)
+
+-- a bit instruction after pre, its bit in `spot`
+module _ (pre : List ℕ) (c d : ℕ) (hd : d < 256) (spot : Spot) (hs : HasSpot spot) where
+  -- its word, by the bit's number in the code, with 8 added, and in a byte register
+  module _ (lead : ℕ) (f : (byte n : ℕ) → spotCode lead spot byte n ≡ pre ++ (byte ∷ n · (d % 16) ∷ [])) (byte : ℕ) (h : c ≡ byte) where
+    word-is : (n : ℕ) → n · (d % 16) ≡ d → spotCode lead spot byte n ≡ pre ++ (c ∷ d ∷ [])
+    word-is n k = f byte n ∙ ap₂ (λ x y. pre ++ (x ∷ y ∷ [])) (sym h) k
+
+    low-word : d < 128 → ((d / 16 < 8) × HasSpot spot) × (spotCode lead spot byte (0 + d / 16) ≡ pre ++ (c ∷ d ∷ []))
+    low-word k = ((omega arith, hs), word-is (0 + d / 16) (omega arith))
+
+    high-word : 128 ≤ d → ((d / 16 - 8 < 8) × HasSpot spot) × (spotCode lead spot byte (8 + (d / 16 - 8)) ≡ pre ++ (c ∷ d ∷ []))
+    high-word k = ((omega arith, hs), word-is (8 + (d / 16 - 8)) (omega arith))
+
+    part-word : ((Unit {0} × (d / 16 < 16)) × HasSpot spot) × (spotCode lead spot byte (d / 16) ≡ pre ++ (c ∷ d ∷ []))
+    part-word = (((tt, omega arith), hs), word-is (d / 16) (omega arith))
+
+  reads-good : ((byte n : ℕ) → spotCode 0x7C spot byte n ≡ pre ++ (byte ∷ n · (d % 16) ∷ [])) → Good pre c d (readsOf c d spot)
+  reads-good f =
+      if≡ (Good pre c d) c 0x63 (part-word 0x7C f 0x63) λ n63.
+      if≡ (Good pre c d) c 0x73 (λ h. if< (Good pre c d) d 128 (low-word 0x7C f 0x73 h) (λ k. tt)) λ n73.
+      if≡ (Good pre c d) c 0x74 (λ h. if< (Good pre c d) d 128 (low-word 0x7C f 0x74 h) (high-word 0x7C f 0x74 h)) λ n74.
+      if≡ (Good pre c d) c 0x75 (λ h. if< (Good pre c d) d 128 (low-word 0x7C f 0x75 h) (high-word 0x7C f 0x75 h)) λ n75.
+      if≡ (Good pre c d) c 0x76 (λ h. if< (Good pre c d) d 128 (low-word 0x7C f 0x76 h) (high-word 0x7C f 0x76 h)) λ n76.
+      if≡ (Good pre c d) c 0x77 (λ h. if< (Good pre c d) d 128 (low-word 0x7C f 0x77 h) (high-word 0x7C f 0x77 h)) λ n77. tt
+
+  writes-good : ((byte n : ℕ) → spotCode 0x7D spot byte n ≡ pre ++ (byte ∷ n · (d % 16) ∷ [])) → Good pre c d (writesOf c d spot)
+  writes-good f =
+      if≡ (Good pre c d) c 0x60 (part-word 0x7D f 0x60) λ n60.
+      if≡ (Good pre c d) c 0x61 (part-word 0x7D f 0x61) λ n61.
+      if≡ (Good pre c d) c 0x62 (part-word 0x7D f 0x62) λ n62.
+      if≡ (Good pre c d) c 0x67 (λ h. if< (Good pre c d) d 128 (low-word 0x7D f 0x67 h) (high-word 0x7D f 0x67 h)) λ n67.
+      if≡ (Good pre c d) c 0x70 (λ h. if< (Good pre c d) d 128 (low-word 0x7D f 0x70 h) (λ k. tt)) λ n70.
+      if≡ (Good pre c d) c 0x71 (λ h. if< (Good pre c d) d 128 (low-word 0x7D f 0x71 h) (λ k. tt)) λ n71.
+      if≡ (Good pre c d) c 0x72 (λ h. if< (Good pre c d) d 128 (low-word 0x7D f 0x72 h) (λ k. tt)) λ n72. tt
 
 module _ (a b : ℕ) (hb : b < 256) where
   short-good : (d : ℕ) (i : Instruction) → (d < 8 → Codes [] a b i []) → Good [] a b (below d 8 (Whole i))
@@ -265,11 +301,23 @@ low a = omega arith
 -- ---- the first word
 
 module _ (a b : ℕ) (hb : b < 256) where
+  -- a bit in a byte register
+  reads-part : (k : ℕ) → k ≡ a → Good [] a b (readsPart k b)
+  reads-part k e = subst (λ x. Good [] x b (readsPart k b)) e (reads-good [] k b hb (InPart (b % 16)) (omega arith) (λ byte n. refl))
+
+  writes-part : (k : ℕ) → k ≡ a → Good [] a b (writesPart k b)
+  writes-part k e = subst (λ x. Good [] x b (writesPart k b)) e (writes-good [] k b hb (InPart (b % 16)) (omega arith) (λ byte n. refl))
+
   row6-good : a / 16 ≡ 6 → Good [] a b (row6 (a % 16) b)
   row6-good z =
+      if≡ (Good [] a b) (a % 16) 0 (λ h. writes-part 0x60 (omega arith)) λ n0.
+      if≡ (Good [] a b) (a % 16) 1 (λ h. writes-part 0x61 (omega arith)) λ n1.
+      if≡ (Good [] a b) (a % 16) 2 (λ h. writes-part 0x62 (omega arith)) λ n2.
+      if≡ (Good [] a b) (a % 16) 3 (λ h. reads-part 0x63 (omega arith)) λ n3.
       if≡ (Good [] a b) (a % 16) 4 (λ h. (omega arith, two≡ (omega arith) (omega arith))) λ n4.
       if≡ (Good [] a b) (a % 16) 5 (λ h. (omega arith, two≡ (omega arith) (omega arith))) λ n5.
       if≡ (Good [] a b) (a % 16) 6 (λ h. (omega arith, two≡ (omega arith) (omega arith))) λ n6.
+      if≡ (Good [] a b) (a % 16) 7 (λ h. writes-part 0x67 (omega arith)) λ n7.
       if≡ (Good [] a b) (a % 16) 8 (λ h. at-good [] Byte a b hb (omega arith) At (λ e k. k) (λ dir e r. two≡ (omega arith) refl)) λ n8.
       if≡ (Good [] a b) (a % 16) 9 (λ h. at-good [] Word a b hb (omega arith) At (λ e k. k) (λ dir e r. two≡ (omega arith) refl)) λ n9.
       if≡ (Good [] a b) (a % 16) 10
@@ -283,6 +331,14 @@ module _ (a b : ℕ) (hb : b < 256) where
 
   row7-good : a / 16 ≡ 7 → Good [] a b (row7 (a % 16) b)
   row7-good z =
+      if≡ (Good [] a b) (a % 16) 0 (λ h. writes-part 0x70 (omega arith)) λ n0.
+      if≡ (Good [] a b) (a % 16) 1 (λ h. writes-part 0x71 (omega arith)) λ n1.
+      if≡ (Good [] a b) (a % 16) 2 (λ h. writes-part 0x72 (omega arith)) λ n2.
+      if≡ (Good [] a b) (a % 16) 3 (λ h. reads-part 0x73 (omega arith)) λ n3.
+      if≡ (Good [] a b) (a % 16) 4 (λ h. reads-part 0x74 (omega arith)) λ n4.
+      if≡ (Good [] a b) (a % 16) 5 (λ h. reads-part 0x75 (omega arith)) λ n5.
+      if≡ (Good [] a b) (a % 16) 6 (λ h. reads-part 0x76 (omega arith)) λ n6.
+      if≡ (Good [] a b) (a % 16) 7 (λ h. reads-part 0x77 (omega arith)) λ n7.
       if≡ (Good [] a b) (a % 16) 9
       (λ k. if< (Good [] a b) b 0x70
       (λ h x y hx hy.
@@ -370,9 +426,36 @@ module _ (c d : ℕ) (hd : d < 256) where
       if≡ (Good (1 ∷ 0xD0 ∷ []) c d) c 0x53
       (λ h. product-good (1 ∷ 0xD0 ∷ []) c d hd Sixteen (Divide Signed Sixteen) (λ s e v w. (v, w)) (λ s e. four≡ [] refl refl (sym h) refl)) λ n53. tt
 
-  pub after-good : (b : ℕ) → Good (1 ∷ b ∷ []) c d (afterOf b c d)
-  after-good b =
+  after01-good : (b : ℕ) → Good (1 ∷ b ∷ []) c d (after01 b c d)
+  after01-good b =
       if≡ (Good (1 ∷ b ∷ []) c d) b 0 (λ h. subst (λ x. Good (1 ∷ x ∷ []) c d (after00 c d)) (sym h) after00-good) λ n0.
       if≡ (Good (1 ∷ b ∷ []) c d) b 0xC0 (λ h. subst (λ x. Good (1 ∷ x ∷ []) c d (afterC0 c d)) (sym h) afterC0-good) λ nC0.
       if≡ (Good (1 ∷ b ∷ []) c d) b 0xD0 (λ h. subst (λ x. Good (1 ∷ x ∷ []) c d (afterD0 c d)) (sym h) afterD0-good) λ nD0.
       if≡ (Good (1 ∷ b ∷ []) c d) b 0xF0 (λ h. subst (λ x. Good (1 ∷ x ∷ []) c d (afterF0 c d)) (sym h) afterF0-good) λ nF0. tt
+
+  module _ (a b : ℕ) (hb : b < 256) where
+    zero-good : (p : Plan) → (d % 16 ≡ 0 → Good (a ∷ b ∷ []) c d p) → Good (a ∷ b ∷ []) c d (exactly (d % 16) 0 p)
+    zero-good p f = if≡ (Good (a ∷ b ∷ []) c d) (d % 16) 0 f (λ n. tt)
+
+    e-zero-good : (p : Plan) → (b % 16 ≡ 0 → b / 16 < 8 → Good (a ∷ b ∷ []) c d p) → Good (a ∷ b ∷ []) c d (eZero b p)
+    e-zero-good p f = if≡ (Good (a ∷ b ∷ []) c d) (b % 16) 0 (λ z. if< (Good (a ∷ b ∷ []) c d) (b / 16) 8 (f z) (λ n. tt)) (λ n. tt)
+
+    reads-memory : (spot : Spot) → HasSpot spot → ((byte n : ℕ) → spotCode 0x7C spot byte n ≡ a ∷ b ∷ byte ∷ n · 0 ∷ [])
+        → Good (a ∷ b ∷ []) c d (readsMemory c d spot)
+    reads-memory spot hs f =
+        zero-good (readsOf c d spot) (λ k. reads-good (a ∷ b ∷ []) c d hd spot hs (λ byte n. f byte n ∙ ap (λ x. a ∷ b ∷ byte ∷ n · x ∷ []) (sym k)))
+
+    writes-memory : (spot : Spot) → HasSpot spot → ((byte n : ℕ) → spotCode 0x7D spot byte n ≡ a ∷ b ∷ byte ∷ n · 0 ∷ [])
+        → Good (a ∷ b ∷ []) c d (writesMemory c d spot)
+    writes-memory spot hs f =
+        zero-good (writesOf c d spot) (λ k. writes-good (a ∷ b ∷ []) c d hd spot hs (λ byte n. f byte n ∙ ap (λ x. a ∷ b ∷ byte ∷ n · x ∷ []) (sym k)))
+
+    pub after-good : Good (a ∷ b ∷ []) c d (afterOf a b c d)
+    after-good =
+        if≡ (Good (a ∷ b ∷ []) c d) a 0x01 (λ h. subst (λ x. Good (x ∷ b ∷ []) c d (after01 b c d)) (sym h) (after01-good b)) λ n01.
+        if≡ (Good (a ∷ b ∷ []) c d) a 0x7C
+        (λ h. e-zero-good (readsMemory c d (AtEr (b / 16))) (λ z e. reads-memory (AtEr (b / 16)) e (λ byte n. four≡ [] (sym h) (omega arith) refl refl))) λ n7C.
+        if≡ (Good (a ∷ b ∷ []) c d) a 0x7D
+        (λ h. e-zero-good (writesMemory c d (AtEr (b / 16))) (λ z e. writes-memory (AtEr (b / 16)) e (λ byte n. four≡ [] (sym h) (omega arith) refl refl))) λ n7D.
+        if≡ (Good (a ∷ b ∷ []) c d) a 0x7E (λ h. reads-memory (AtAbs b) hb (λ byte n. four≡ [] (sym h) refl refl refl)) λ n7E.
+        if≡ (Good (a ∷ b ∷ []) c d) a 0x7F (λ h. writes-memory (AtAbs b) hb (λ byte n. four≡ [] (sym h) refl refl refl)) λ n7F. tt

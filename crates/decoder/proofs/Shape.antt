@@ -1,25 +1,26 @@
 -- The shape of each code: its first byte starts a code, and the plan of its words with the bytes that follow makes its instruction.
 use Prim.Native.Nat.{ℕ, _+_, _-_, _*_, _/_, _%_, _≤_, _<_}
 use mathlib.Core.Path.{_≡_, refl, ap, ap₂, _∙_}
-use mathlib.Core.Bool.{false}
+use mathlib.Core.Bool.{true, false}
 use mathlib.Core.List.{List, [], _∷_}
 use native.Mathlib.Omega.{arith}
 use native.Mathlib.Nat.{zero-add, div-add-mod', add-sub-cancel-left}
 use lib.Dec.{ltb, eqb}
 use lib.Arith.{digits-div, digits-mod}
-use borrow.Author.Tests.{eqb-false, le-ltb, lt-ltb, eq-eqb, ne-eqb}
+use borrow.Author.Tests.{le-ltb, lt-ltb, eq-eqb, ne-eqb}
 use Rattle.decoder.specs.Names.{Width, Byte, Word, Long, Op, Add, Sub, Cmp, Mov, Addx, Subx, Or, Xor, And, Reg, Imm, Way, Up, Down, By, One, Two}
 use Rattle.decoder.specs.Names.{Four, Turn, Shll, Shlr, Rotxl, Rotxr, Shal, Shar, Rotl, Rotr, Single, Not, Neg, Extu, Exts, Half, Eight, Sixteen, Sign, Unsigned, Signed, Change, Orc, Xorc}
+use Rattle.decoder.specs.Names.{Take, Btst, Bor, Bior, Bxor, Bixor, Band, Biand, Bld, Bild, Give, Bset, Bnot, Bclr, Bst, Bist, Index, Numbered, ByPart, Spot, InPart, AtEr, AtAbs, Takes, Gives}
 use Rattle.decoder.specs.Names.{Andc, Ldc, Dir, Load, Store, Place, At, Step, Disp, Abs8, Abs16, Abs24, Reach, Near, Far, Target, ByReg, Direct}
 use Rattle.decoder.specs.Names.{Vector, Instruction, Nop, Stc, LdcReg, Ccr, Alu, IncDec, AddsSubs, Decimal, Shift, Unary, Multiply, Divide, Move, Bcc, Jmp, Bsr}
 use Rattle.decoder.specs.Names.{Jsr, Rts, Rest, Imm16, Imm32, Disp16, Aa16, Aa24, Bcc16, Bsr16, Jmp24, Jsr24, Plan, Whole, Lacks, Nothing, Mode}
 use Rattle.decoder.specs.Names.{Plain, Stepping, Displaced, Absolute, Bits16, Bits24, Bits32, Cut}
-use Rattle.codes.specs.Code.{codeOf, _·_, dirDigit, digit013, digit89B, be16, be24, be32}
-use Rattle.codes.specs.Valid.{Valid, Digit}
+use Rattle.codes.specs.Code.{codeOf, _·_, dirDigit, digit013, digit89B, spotCode, be16, be24, be32}
+use Rattle.codes.specs.Valid.{Valid, Digit, HasSpot}
 use Rattle.products.specs.Products.{productWidth}
 use Rattle.decoder.specs.MirrorWords.{pick, exactly, below, held, regReg, multiplied, divided, longReg, incDecs, shifts, shiftOf, unaries, bccDigit, moveOf, memoryOf, nextOp, plans, planOf}
-use Rattle.decoder.specs.MirrorWords.{longMemory, longLogic, afterOf}
-use Rattle.decoder.specs.MirrorDecode.{tailOf, fillOf, begunOf, startsOf, prefixedOf}
+use Rattle.decoder.specs.MirrorWords.{longMemory, longLogic, eZero, takeEither, giveNumbered, giveByPart, readsOf, writesOf, afterOf}
+use Rattle.decoder.specs.MirrorDecode.{tailOf, fillOf, begunOf, twoWords, startsOf, prefixEr, prefixOf}
 
 -- ---- digits and tests
 
@@ -42,23 +43,21 @@ pub data Ends (p : Plan) (i : Instruction) : List ℕ → Type 0 where
   four : (q : Rest) {x y z w : ℕ} → p ≡ Lacks q → tailOf q ≡ Bits32 → fillOf q (x * 16777216 + y * 65536 + z * 256 + w) ≡ i → Ends p i (x ∷ y ∷ z ∷ w ∷ [])
 
 pub data Shape (i : Instruction) : List ℕ → Type 0 where
-  plain : {a b : ℕ} {t : List ℕ} → (a ≡ 1 → ⊥) → startsOf a ≡ Cut → Ends (planOf a b) i t → Shape i (a ∷ b ∷ t)
-  long : {b c d : ℕ} {t : List ℕ} → prefixedOf b [] ≡ Cut → begunOf (afterOf b c 0) ≡ Cut → Ends (afterOf b c d) i t → Shape i (1 ∷ b ∷ c ∷ d ∷ t)
-
-not1 : (a : ℕ) → eqb a 1 ≡ false → a ≡ 1 → ⊥
-not1 a e = eqb-false a 1 e
+  plain : {a b : ℕ} {t : List ℕ} → twoWords a ≡ false → startsOf a ≡ Cut → Ends (planOf a b) i t → Shape i (a ∷ b ∷ t)
+  long : {a b c d : ℕ} {t : List ℕ} → twoWords a ≡ true → prefixOf a b ≡ Cut → begunOf (afterOf a b c 0) ≡ Cut → Ends (afterOf a b c d) i t
+      → Shape i (a ∷ b ∷ c ∷ d ∷ t)
 
 -- a code of one word whose first byte is a numeral
-one : {a b : ℕ} {i : Instruction} → eqb a 1 ≡ false → startsOf a ≡ Cut → planOf a b ≡ Whole i → Shape i (a ∷ b ∷ [])
-one {a} n s e = plain (not1 a n) s (all e)
+one : {a b : ℕ} {i : Instruction} → twoWords a ≡ false → startsOf a ≡ Cut → planOf a b ≡ Whole i → Shape i (a ∷ b ∷ [])
+one n s e = plain n s (all e)
 
 -- register to register
-regs : {op : Op} {w : Width} {a : ℕ} → eqb a 1 ≡ false → startsOf a ≡ Cut → ((b : ℕ) → planOf a b ≡ regReg op w b)
+regs : {op : Op} {w : Width} {a : ℕ} → twoWords a ≡ false → startsOf a ≡ Cut → ((b : ℕ) → planOf a b ≡ regReg op w b)
     → (s d : ℕ) → d < 16 → Shape (Alu op w (Reg s) d) (a ∷ s · d ∷ [])
 regs {op} {w} n st f s d h = one n st (f (s · d) ∙ digits (λ x y. Whole (Alu op w (Reg x) y)) s h)
 
 -- (8+e)e
-longs : {op : Op} {a : ℕ} → eqb a 1 ≡ false → startsOf a ≡ Cut → ((b : ℕ) → 16 ≤ b → planOf a b ≡ longReg op b)
+longs : {op : Op} {a : ℕ} → twoWords a ≡ false → startsOf a ≡ Cut → ((b : ℕ) → 16 ≤ b → planOf a b ≡ longReg op b)
     → (s d : ℕ) → s < 8 → d < 8 → Shape (Alu op Long (Reg s) d) (a ∷ (8 + s) · d ∷ [])
 longs {op} n st f s d hs hd =
     one n st
@@ -72,9 +71,22 @@ longs {op} n st f s d hs hd =
 first : (h b : ℕ) {d : ℕ} → d < 16 → planOf (h · d) b ≡ plans h d b
 first h b k = digits (λ x y. plans x y b) h k
 
-by-first : (h : ℕ) {d b : ℕ} {i : Instruction} → d < 16 → (h · d ≡ 1 → ⊥) → (h · d ≡ 84 → ⊥) → begunOf (plans h d 0) ≡ Cut
+-- and none that begins two words
+one-word : (h d : ℕ) → d < 16 → (h ≡ 0 → ⊥) → (h ≡ 7 → ⊥) → twoWords (h · d) ≡ false
+one-word h d k n0 n7 = rw (
+  ne-eqb (h · d) 0x01 (λ e. n0 (omega arith)),
+  ne-eqb (h · d) 0x7C (λ e. n7 (omega arith)),
+  ne-eqb (h · d) 0x7D (λ e. n7 (omega arith)),
+  ne-eqb (h · d) 0x7E (λ e. n7 (omega arith)),
+  ne-eqb (h · d) 0x7F (λ e. n7 (omega arith)),
+)
+
+by-first : (h : ℕ) {d b : ℕ} {i : Instruction} → d < 16 → (h ≡ 0 → ⊥) → (h ≡ 5 → ⊥) → (h ≡ 7 → ⊥) → begunOf (plans h d 0) ≡ Cut
     → plans h d b ≡ Whole i → Shape i (h · d ∷ b ∷ [])
-by-first h {d} {b} k n1 n54 s e = plain n1 (rw (ne-eqb (h · d) 1 n1, ne-eqb (h · d) 84 n54) (ap begunOf (first h 0 k) ∙ s)) (all (first h b k ∙ e))
+by-first h {d} {b} k n0 n5 n7 s e =
+    plain {a = h · d} (one-word h d k n0 n7)
+    (rw (one-word h d k n0 n7, ne-eqb (h · d) 0x54 (λ z. n5 (omega arith))) (ap begunOf (first h 0 k) ∙ s))
+    (all (first h b k ∙ e))
 
 -- ---- the second byte of a MOV with memory, and the numbers that follow
 
@@ -139,19 +151,19 @@ reg-shape Cmp Long s d v = longs refl refl (λ b h. rw (le-ltb b 16 h)) s d (v .
 reg-shape Mov Long s d v = longs refl refl (λ b h. rw (le-ltb b 16 h)) s d (v .1) (v .2)
 reg-shape Addx Long s d v = absurd (v .0)
 reg-shape Subx Long s d v = absurd (v .0)
-reg-shape Or Long s d v = long refl refl (all (at-logic Or s d (v .1) (v .2)))
-reg-shape Xor Long s d v = long refl refl (all (at-logic Xor s d (v .1) (v .2)))
-reg-shape And Long s d v = long refl refl (all (at-logic And s d (v .1) (v .2)))
+reg-shape Or Long s d v = long refl refl refl (all (at-logic Or s d (v .1) (v .2)))
+reg-shape Xor Long s d v = long refl refl refl (all (at-logic Xor s d (v .1) (v .2)))
+reg-shape And Long s d v = long refl refl refl (all (at-logic And s d (v .1) (v .2)))
 
 -- an immediate byte: the first digit is 8 to F
 by-imm8 : {op : Op} (h : ℕ) {d v : ℕ} → 8 ≤ h → d < 16 → plans h d v ≡ Whole (Alu op Byte (Imm v) d) → begunOf (plans h d 0) ≡ Cut
     → Shape (Alu op Byte (Imm v) d) (h · d ∷ v ∷ [])
-by-imm8 h k hd e s = by-first h hd (omega arith) (omega arith) s e
+by-imm8 h k hd e s = by-first h hd (omega arith) (omega arith) (omega arith) s e
 
 -- 79: the second byte's upper digit is 0 to 6
 by-imm16 : {op : Op} (h : ℕ) {d v : ℕ} → h < 7 → d < 16 → nextOp h ≡ op → Shape (Alu op Word (Imm v) d) (0x79 ∷ h · d ∷ be16 v)
 by-imm16 {op} h {d} {v} k hd e =
-    plain {b = h · d} (not1 0x79 refl) refl
+    plain {a = 0x79} {b = h · d} refl refl
     (two (Imm16 op d)
     (rw (lt-ltb (h · d) 0x70 (omega arith)) (digits (λ x y. Lacks (Imm16 (nextOp x) y)) h hd ∙ ap (λ x. Lacks (Imm16 x d)) e))
     refl
@@ -159,7 +171,7 @@ by-imm16 {op} h {d} {v} k hd e =
 
 by-imm32 : {op : Op} (h : ℕ) {d v : ℕ} → h < 7 → d < 8 → nextOp h ≡ op → Shape (Alu op Long (Imm v) d) (0x7A ∷ h · d ∷ be32 v)
 by-imm32 {op} h {d} {v} k hd e =
-    plain {b = h · d} (not1 0x7A refl) refl
+    plain {a = 0x7A} {b = h · d} refl refl
     (four (Imm32 op d)
     (rw (lt-ltb (h · d) 0x70 (omega arith))
     (digits (λ x y. below y 8 (Lacks (Imm32 (nextOp x) y))) h (omega arith) ∙ short hd ∙ ap (λ x. Lacks (Imm32 x d)) e))
@@ -196,7 +208,7 @@ imm-shape Addx Long v d k = absurd (k .0)
 imm-shape Subx Long v d k = absurd (k .0)
 
 -- a second byte of a digit and a register
-by-digits : (f : ℕ → ℕ → Plan) (h : ℕ) {a d : ℕ} {i : Instruction} → eqb a 1 ≡ false → startsOf a ≡ Cut → ((b : ℕ) → planOf a b ≡ f (b / 16) (b % 16))
+by-digits : (f : ℕ → ℕ → Plan) (h : ℕ) {a d : ℕ} {i : Instruction} → twoWords a ≡ false → startsOf a ≡ Cut → ((b : ℕ) → planOf a b ≡ f (b / 16) (b % 16))
     → d < 16 → f h d ≡ Whole i → Shape i (a ∷ h · d ∷ [])
 by-digits f h {d = d} n st g hd e = one n st (g (h · d) ∙ digits f h hd ∙ e)
 
@@ -233,7 +245,7 @@ decimal-shape Up r v = one refl refl (rw (lt-ltb (0 · r) 16 (omega arith)) (ap 
 decimal-shape Down r v = one refl refl (rw (lt-ltb (0 · r) 16 (omega arith)) (ap (λ x. Whole (Decimal Down x)) (zero-add r)))
 
 -- a pair of shifts in one row
-turns : (t u : Turn) {a : ℕ} → eqb a 1 ≡ false → startsOf a ≡ Cut → ((b : ℕ) → planOf a b ≡ shiftOf t u b) → (w : Width) (r : ℕ) → Digit w r
+turns : (t u : Turn) {a : ℕ} → twoWords a ≡ false → startsOf a ≡ Cut → ((b : ℕ) → planOf a b ≡ shiftOf t u b) → (w : Width) (r : ℕ) → Digit w r
     → Shape (Shift t w r) (a ∷ digit013 w · r ∷ []) × Shape (Shift u w r) (a ∷ digit89B w · r ∷ [])
 turns t u n st g Byte r v = (by-digits (shifts t u) 0 n st g v refl, by-digits (shifts t u) 8 n st g v refl)
 turns t u n st g Word r v = (by-digits (shifts t u) 1 n st g v refl, by-digits (shifts t u) 9 n st g v refl)
@@ -279,14 +291,140 @@ at-product make h s d v = digits (λ x y. held (productWidth h) y (Whole (make x
 multiply-shape : (sign : Sign) (h : Half) (s d : ℕ) → Digit (productWidth h) d → Shape (Multiply sign h s d) (codeOf (Multiply sign h s d))
 multiply-shape Unsigned Eight s d v = one refl refl (at-product (Multiply Unsigned Eight) Eight s d v)
 multiply-shape Unsigned Sixteen s d v = one refl refl (at-product (Multiply Unsigned Sixteen) Sixteen s d v)
-multiply-shape Signed Eight s d v = long refl refl (all (at-product (Multiply Signed Eight) Eight s d v))
-multiply-shape Signed Sixteen s d v = long refl refl (all (at-product (Multiply Signed Sixteen) Sixteen s d v))
+multiply-shape Signed Eight s d v = long refl refl refl (all (at-product (Multiply Signed Eight) Eight s d v))
+multiply-shape Signed Sixteen s d v = long refl refl refl (all (at-product (Multiply Signed Sixteen) Sixteen s d v))
 
 divide-shape : (sign : Sign) (h : Half) (s d : ℕ) → Digit (productWidth h) d → Shape (Divide sign h s d) (codeOf (Divide sign h s d))
 divide-shape Unsigned Eight s d v = one refl refl (at-product (Divide Unsigned Eight) Eight s d v)
 divide-shape Unsigned Sixteen s d v = one refl refl (at-product (Divide Unsigned Sixteen) Sixteen s d v)
-divide-shape Signed Eight s d v = long refl refl (all (at-product (Divide Signed Eight) Eight s d v))
-divide-shape Signed Sixteen s d v = long refl refl (all (at-product (Divide Signed Sixteen) Sixteen s d v))
+divide-shape Signed Eight s d v = long refl refl refl (all (at-product (Divide Signed Eight) Eight s d v))
+divide-shape Signed Sixteen s d v = long refl refl refl (all (at-product (Divide Signed Sixteen) Sixteen s d v))
+
+-- ---- the bit instructions
+
+-- e0
+at-e-zero : (f : ℕ → Plan) (e : ℕ) → e < 8 → eZero (e · 0) (f ((e · 0) / 16)) ≡ f e
+at-e-zero f e h = digits (λ x y. pick (eqb y 0) (below x 8 (f x)) Nothing) e (omega arith) ∙ short h
+
+cut-e-zero : (e : ℕ) → e < 8 → prefixEr (e · 0) ≡ Cut
+cut-e-zero e h = rw (eq-eqb ((e · 0) % 16) 0 (omega arith), lt-ltb (e · 0) 128 (omega arith))
+
+-- What `plan` makes of a word is an instruction with its bit in a byte register, at @ER behind `lead`, or at aa:8 behind `lead + 2`.
+module _ (lead : ℕ) (plan : ℕ → ℕ → Spot → Plan) (er : twoWords lead ≡ true) (abs : twoWords (lead + 2) ≡ true)
+    (cut-er : (b : ℕ) → prefixOf lead b ≡ prefixEr b) (cut-abs : (b : ℕ) → prefixOf (lead + 2) b ≡ Cut)
+    (after-er : (b c d : ℕ) → afterOf lead b c d ≡ eZero b (exactly (d % 16) 0 (plan c d (AtEr (b / 16)))))
+    (after-abs : (b c d : ℕ) → afterOf (lead + 2) b c d ≡ exactly (d % 16) 0 (plan c d (AtAbs b))) where
+  bit-shape : (byte digit : ℕ) (make : Spot → Instruction) → twoWords byte ≡ false → startsOf byte ≡ Cut
+      → ((b : ℕ) → planOf byte b ≡ plan byte b (InPart (b % 16))) → ((spot : Spot) → begunOf (plan byte 0 spot) ≡ Cut)
+      → ((spot : Spot) (d : ℕ) → d < 16 → plan byte (digit · d) spot ≡ Whole (make spot))
+      → (spot : Spot) → HasSpot spot → Shape (make spot) (spotCode lead spot byte digit)
+  bit-shape byte digit make n st f cut g (InPart d) v =
+      one n st (f (digit · d) ∙ ap (λ x. plan byte (digit · d) (InPart x)) (digits-mod digit v) ∙ g (InPart d) d v)
+  bit-shape byte digit make n st f cut g (AtEr e) v =
+      long {a = lead} {b = e · 0} {c = byte} {d = digit · 0} er
+      (cut-er (e · 0) ∙ cut-e-zero e v)
+      (ap begunOf (after-er (e · 0) byte 0 ∙ at-e-zero (λ x. plan byte 0 (AtEr x)) e v) ∙ cut (AtEr e))
+      (all (after-er (e · 0) byte (digit · 0)
+      ∙ at-e-zero (λ x. exactly ((digit · 0) % 16) 0 (plan byte (digit · 0) (AtEr x))) e v
+      ∙ taken {x = (digit · 0) % 16} {k = 0} (omega arith)
+      ∙ g (AtEr e) 0 (omega arith)))
+  bit-shape byte digit make n st f cut g (AtAbs a) v =
+      long {a = lead + 2} {b = a} {c = byte} {d = digit · 0} abs
+      (cut-abs a)
+      (ap begunOf (after-abs a byte 0) ∙ cut (AtAbs a))
+      (all (after-abs a byte (digit · 0) ∙ taken {x = (digit · 0) % 16} {k = 0} (omega arith) ∙ g (AtAbs a) 0 (omega arith)))
+
+reads : (byte digit : ℕ) (make : Spot → Instruction) → twoWords byte ≡ false → startsOf byte ≡ Cut
+    → ((b : ℕ) → planOf byte b ≡ readsOf byte b (InPart (b % 16))) → ((spot : Spot) → begunOf (readsOf byte 0 spot) ≡ Cut)
+    → ((spot : Spot) (d : ℕ) → d < 16 → readsOf byte (digit · d) spot ≡ Whole (make spot))
+    → (spot : Spot) → HasSpot spot → Shape (make spot) (spotCode 0x7C spot byte digit)
+reads = bit-shape 0x7C readsOf refl refl (λ b. refl) (λ b. refl) (λ b c d. refl) (λ b c d. refl)
+
+writes : (byte digit : ℕ) (make : Spot → Instruction) → twoWords byte ≡ false → startsOf byte ≡ Cut
+    → ((b : ℕ) → planOf byte b ≡ writesOf byte b (InPart (b % 16))) → ((spot : Spot) → begunOf (writesOf byte 0 spot) ≡ Cut)
+    → ((spot : Spot) (d : ℕ) → d < 16 → writesOf byte (digit · d) spot ≡ Whole (make spot))
+    → (spot : Spot) → HasSpot spot → Shape (make spot) (spotCode 0x7D spot byte digit)
+writes = bit-shape 0x7D writesOf refl refl (λ b. refl) (λ b. refl) (λ b c d. refl) (λ b c d. refl)
+
+-- a bit's number in the upper digit of a second byte; with 8 added, the inverted instruction's
+is-low : (n d : ℕ) → n < 8 → d < 16 → ltb ((0 + n) · d) 128 ≡ true
+is-low n d hn hd = lt-ltb ((0 + n) · d) 128 (omega arith)
+
+is-high : (n d : ℕ) → n < 8 → d < 16 → ltb ((8 + n) · d) 128 ≡ false
+is-high n d hn hd = le-ltb ((8 + n) · d) 128 (omega arith)
+
+low-number : (make : ℕ → Instruction) (n : ℕ) {d : ℕ} → d < 16 → Whole (make (((0 + n) · d) / 16)) ≡ Whole (make n)
+low-number make n hd = ap (λ x. Whole (make x)) (digits-div (0 + n) hd ∙ zero-add n)
+
+high-number : (make : ℕ → Instruction) (n : ℕ) {d : ℕ} → d < 16 → Whole (make (((8 + n) · d) / 16 - 8)) ≡ Whole (make n)
+high-number make n hd = ap (λ x. Whole (make (x - 8))) (digits-div (8 + n) hd) ∙ ap (λ x. Whole (make x)) (add-sub-cancel-left 8 n)
+
+part-number : (make : ℕ → Instruction) (r : ℕ) {d : ℕ} → d < 16 → Whole (make ((r · d) / 16)) ≡ Whole (make r)
+part-number make r hd = ap (λ x. Whole (make x)) (digits-div r hd)
+
+-- a pair of readers at one byte
+take-pair : (t u : Take) (byte : ℕ) → twoWords byte ≡ false → startsOf byte ≡ Cut → ((b : ℕ) → planOf byte b ≡ readsOf byte b (InPart (b % 16)))
+    → ((b : ℕ) (spot : Spot) → readsOf byte b spot ≡ takeEither t u b spot) → (n : ℕ) → n < 8 → (spot : Spot) → HasSpot spot
+    → Shape (Takes t (Numbered n) spot) (spotCode 0x7C spot byte (0 + n)) × Shape (Takes u (Numbered n) spot) (spotCode 0x7C spot byte (8 + n))
+take-pair t u byte m st f g n hn spot hs = (
+  reads byte (0 + n) (Takes t (Numbered n)) m st f (λ s. ap begunOf (g 0 s))
+      (λ s d h. g ((0 + n) · d) s ∙ rw (is-low n d hn h) (low-number (λ x. Takes t (Numbered x) s) n h)) spot hs,
+  reads byte (8 + n) (Takes u (Numbered n)) m st f (λ s. ap begunOf (g 0 s))
+      (λ s d h. g ((8 + n) · d) s ∙ rw (is-high n d hn h) (high-number (λ x. Takes u (Numbered x) s) n h)) spot hs,
+)
+
+take-shape : (take : Take) (index : Index) (spot : Spot) → Valid (Takes take index spot) → Shape (Takes take index spot) (codeOf (Takes take index spot))
+take-shape Btst (Numbered n) spot v =
+    reads 0x73 (0 + n) (Takes Btst (Numbered n)) refl refl (λ b. refl) (λ s. refl)
+    (λ s d h. rw (is-low n d (v .0) h) (low-number (λ x. Takes Btst (Numbered x) s) n h)) spot (v .1)
+take-shape Btst (ByPart r) spot v =
+    reads 0x63 r (Takes Btst (ByPart r)) refl refl (λ b. refl) (λ s. refl) (λ s d. part-number (λ x. Takes Btst (ByPart x) s) r) spot (v .1)
+take-shape Bor (Numbered n) spot v = take-pair Bor Bior 0x74 refl refl (λ b. refl) (λ b s. refl) n (v .0) spot (v .1) .0
+take-shape Bior (Numbered n) spot v = take-pair Bor Bior 0x74 refl refl (λ b. refl) (λ b s. refl) n (v .0) spot (v .1) .1
+take-shape Bxor (Numbered n) spot v = take-pair Bxor Bixor 0x75 refl refl (λ b. refl) (λ b s. refl) n (v .0) spot (v .1) .0
+take-shape Bixor (Numbered n) spot v = take-pair Bxor Bixor 0x75 refl refl (λ b. refl) (λ b s. refl) n (v .0) spot (v .1) .1
+take-shape Band (Numbered n) spot v = take-pair Band Biand 0x76 refl refl (λ b. refl) (λ b s. refl) n (v .0) spot (v .1) .0
+take-shape Biand (Numbered n) spot v = take-pair Band Biand 0x76 refl refl (λ b. refl) (λ b s. refl) n (v .0) spot (v .1) .1
+take-shape Bld (Numbered n) spot v = take-pair Bld Bild 0x77 refl refl (λ b. refl) (λ b s. refl) n (v .0) spot (v .1) .0
+take-shape Bild (Numbered n) spot v = take-pair Bld Bild 0x77 refl refl (λ b. refl) (λ b s. refl) n (v .0) spot (v .1) .1
+take-shape Bor (ByPart r) spot v = absurd (v .0 .0)
+take-shape Bior (ByPart r) spot v = absurd (v .0 .0)
+take-shape Bxor (ByPart r) spot v = absurd (v .0 .0)
+take-shape Bixor (ByPart r) spot v = absurd (v .0 .0)
+take-shape Band (ByPart r) spot v = absurd (v .0 .0)
+take-shape Biand (ByPart r) spot v = absurd (v .0 .0)
+take-shape Bld (ByPart r) spot v = absurd (v .0 .0)
+take-shape Bild (ByPart r) spot v = absurd (v .0 .0)
+
+-- a writer by a number and by a register
+give-numbered : (give : Give) (byte : ℕ) → twoWords byte ≡ false → startsOf byte ≡ Cut → ((b : ℕ) → planOf byte b ≡ writesOf byte b (InPart (b % 16)))
+    → ((b : ℕ) (spot : Spot) → writesOf byte b spot ≡ giveNumbered give b spot) → (n : ℕ) → n < 8 → (spot : Spot) → HasSpot spot
+    → Shape (Gives give (Numbered n) spot) (spotCode 0x7D spot byte (0 + n))
+give-numbered give byte m st f g n hn =
+    writes byte (0 + n) (Gives give (Numbered n)) m st f (λ s. ap begunOf (g 0 s))
+    (λ s d h. g ((0 + n) · d) s ∙ rw (is-low n d hn h) (low-number (λ x. Gives give (Numbered x) s) n h))
+
+give-by-part : (give : Give) (byte : ℕ) → twoWords byte ≡ false → startsOf byte ≡ Cut → ((b : ℕ) → planOf byte b ≡ writesOf byte b (InPart (b % 16)))
+    → ((b : ℕ) (spot : Spot) → writesOf byte b spot ≡ giveByPart give b spot) → (r : ℕ) (spot : Spot) → HasSpot spot
+    → Shape (Gives give (ByPart r) spot) (spotCode 0x7D spot byte r)
+give-by-part give byte m st f g r =
+    writes byte r (Gives give (ByPart r)) m st f (λ s. ap begunOf (g 0 s)) (λ s d h. g (r · d) s ∙ part-number (λ x. Gives give (ByPart x) s) r h)
+
+give-shape : (give : Give) (index : Index) (spot : Spot) → Valid (Gives give index spot) → Shape (Gives give index spot) (codeOf (Gives give index spot))
+give-shape Bset (Numbered n) spot v = give-numbered Bset 0x70 refl refl (λ b. refl) (λ b s. refl) n (v .0) spot (v .1)
+give-shape Bnot (Numbered n) spot v = give-numbered Bnot 0x71 refl refl (λ b. refl) (λ b s. refl) n (v .0) spot (v .1)
+give-shape Bclr (Numbered n) spot v = give-numbered Bclr 0x72 refl refl (λ b. refl) (λ b s. refl) n (v .0) spot (v .1)
+give-shape Bset (ByPart r) spot v = give-by-part Bset 0x60 refl refl (λ b. refl) (λ b s. refl) r spot (v .1)
+give-shape Bnot (ByPart r) spot v = give-by-part Bnot 0x61 refl refl (λ b. refl) (λ b s. refl) r spot (v .1)
+give-shape Bclr (ByPart r) spot v = give-by-part Bclr 0x62 refl refl (λ b. refl) (λ b s. refl) r spot (v .1)
+give-shape Bst (Numbered n) spot v =
+    writes 0x67 (0 + n) (Gives Bst (Numbered n)) refl refl (λ b. refl) (λ s. refl)
+    (λ s d h. rw (is-low n d (v .0) h) (low-number (λ x. Gives Bst (Numbered x) s) n h)) spot (v .1)
+give-shape Bist (Numbered n) spot v =
+    writes 0x67 (8 + n) (Gives Bist (Numbered n)) refl refl (λ b. refl) (λ s. refl)
+    (λ s d h. rw (is-high n d (v .0) h) (high-number (λ x. Gives Bist (Numbered x) s) n h)) spot (v .1)
+give-shape Bst (ByPart r) spot v = absurd (v .0 .0)
+give-shape Bist (ByPart r) spot v = absurd (v .0 .0)
 
 -- what follows the second byte of a MOV with memory
 ends-disp : {p : Plan} (dir : Dir) (w : Width) (e d r : ℕ) → d < 0x10000 → p ≡ moveOf w Displaced dir e r → Ends p (Move dir w (Disp e d) r) (be16 d)
@@ -300,44 +438,44 @@ ends-24 dir w a r k = zero-three (Aa24 dir w r) k refl (ap (λ x. Move dir w (Ab
 
 move-shape : (dir : Dir) (w : Width) (p : Place) (r : ℕ) → Valid (Move dir w p r) → Shape (Move dir w p r) (codeOf (Move dir w p r))
 move-shape dir Byte (At e) r v = one refl refl (at-memory Byte Plain dir e r (v .0) (v .1))
-move-shape Load Byte (Abs8 a) r v = by-first 2 (v .1) (omega arith) (omega arith) refl refl
-move-shape Store Byte (Abs8 a) r v = by-first 3 (v .1) (omega arith) (omega arith) refl refl
+move-shape Load Byte (Abs8 a) r v = by-first 2 (v .1) (omega arith) (omega arith) (omega arith) refl refl
+move-shape Store Byte (Abs8 a) r v = by-first 3 (v .1) (omega arith) (omega arith) (omega arith) refl refl
 move-shape dir Byte (Step e) r v = one refl refl (at-memory Byte Stepping dir e r (v .0) (v .1))
-move-shape dir Byte (Disp e d) r v = plain {b = (dirDigit dir + e) · r} (not1 0x6E refl) refl (ends-disp dir Byte e d r (v .0 .1) (at-memory Byte Displaced dir e r (v .0 .0) (v .1)))
-move-shape dir Byte (Abs16 a) r v = plain {b = (dirDigit dir + 0) · r} (not1 0x6A refl) refl (ends-16 dir Byte a r (v .0) (at-memory Byte Absolute dir 0 r (omega arith) (v .1)))
-move-shape dir Byte (Abs24 a) r v = plain {b = (dirDigit dir + 2) · r} (not1 0x6A refl) refl (ends-24 dir Byte a r (at-memory Byte Absolute dir 2 r (omega arith) (v .1)))
+move-shape dir Byte (Disp e d) r v = plain {b = (dirDigit dir + e) · r} refl refl (ends-disp dir Byte e d r (v .0 .1) (at-memory Byte Displaced dir e r (v .0 .0) (v .1)))
+move-shape dir Byte (Abs16 a) r v = plain {b = (dirDigit dir + 0) · r} refl refl (ends-16 dir Byte a r (v .0) (at-memory Byte Absolute dir 0 r (omega arith) (v .1)))
+move-shape dir Byte (Abs24 a) r v = plain {b = (dirDigit dir + 2) · r} refl refl (ends-24 dir Byte a r (at-memory Byte Absolute dir 2 r (omega arith) (v .1)))
 move-shape dir Word (At e) r v = one refl refl (at-memory Word Plain dir e r (v .0) (v .1))
 move-shape dir Word (Abs8 a) r v = absurd (v .0 .0)
 move-shape dir Word (Step e) r v = one refl refl (at-memory Word Stepping dir e r (v .0) (v .1))
-move-shape dir Word (Disp e d) r v = plain {b = (dirDigit dir + e) · r} (not1 0x6F refl) refl (ends-disp dir Word e d r (v .0 .1) (at-memory Word Displaced dir e r (v .0 .0) (v .1)))
-move-shape dir Word (Abs16 a) r v = plain {b = (dirDigit dir + 0) · r} (not1 0x6B refl) refl (ends-16 dir Word a r (v .0) (at-memory Word Absolute dir 0 r (omega arith) (v .1)))
-move-shape dir Word (Abs24 a) r v = plain {b = (dirDigit dir + 2) · r} (not1 0x6B refl) refl (ends-24 dir Word a r (at-memory Word Absolute dir 2 r (omega arith) (v .1)))
-move-shape dir Long (At e) r v = long {d = (dirDigit dir + e) · r} refl refl (all (at-long Plain dir e r (v .0) (v .1)))
+move-shape dir Word (Disp e d) r v = plain {b = (dirDigit dir + e) · r} refl refl (ends-disp dir Word e d r (v .0 .1) (at-memory Word Displaced dir e r (v .0 .0) (v .1)))
+move-shape dir Word (Abs16 a) r v = plain {b = (dirDigit dir + 0) · r} refl refl (ends-16 dir Word a r (v .0) (at-memory Word Absolute dir 0 r (omega arith) (v .1)))
+move-shape dir Word (Abs24 a) r v = plain {b = (dirDigit dir + 2) · r} refl refl (ends-24 dir Word a r (at-memory Word Absolute dir 2 r (omega arith) (v .1)))
+move-shape dir Long (At e) r v = long {d = (dirDigit dir + e) · r} refl refl refl (all (at-long Plain dir e r (v .0) (v .1)))
 move-shape dir Long (Abs8 a) r v = absurd (v .0 .0)
-move-shape dir Long (Step e) r v = long {d = (dirDigit dir + e) · r} refl refl (all (at-long Stepping dir e r (v .0) (v .1)))
-move-shape dir Long (Disp e d) r v = long {d = (dirDigit dir + e) · r} refl refl (ends-disp dir Long e d r (v .0 .1) (at-long Displaced dir e r (v .0 .0) (v .1)))
-move-shape dir Long (Abs16 a) r v = long {d = (dirDigit dir + 0) · r} refl refl (ends-16 dir Long a r (v .0) (at-long Absolute dir 0 r (omega arith) (v .1)))
-move-shape dir Long (Abs24 a) r v = long {d = (dirDigit dir + 2) · r} refl refl (ends-24 dir Long a r (at-long Absolute dir 2 r (omega arith) (v .1)))
+move-shape dir Long (Step e) r v = long {d = (dirDigit dir + e) · r} refl refl refl (all (at-long Stepping dir e r (v .0) (v .1)))
+move-shape dir Long (Disp e d) r v = long {d = (dirDigit dir + e) · r} refl refl refl (ends-disp dir Long e d r (v .0 .1) (at-long Displaced dir e r (v .0 .0) (v .1)))
+move-shape dir Long (Abs16 a) r v = long {d = (dirDigit dir + 0) · r} refl refl refl (ends-16 dir Long a r (v .0) (at-long Absolute dir 0 r (omega arith) (v .1)))
+move-shape dir Long (Abs24 a) r v = long {d = (dirDigit dir + 2) · r} refl refl refl (ends-24 dir Long a r (at-long Absolute dir 2 r (omega arith) (v .1)))
 
 bcc-shape : (c : ℕ) (k : Reach) → Valid (Bcc c k) → Shape (Bcc c k) (codeOf (Bcc c k))
-bcc-shape c (Near d) v = by-first 4 (v .0) (omega arith) (omega arith) refl refl
+bcc-shape c (Near d) v = by-first 4 (v .0) (omega arith) (omega arith) (omega arith) refl refl
 bcc-shape c (Far d) v =
-    plain {b = c · 0} (not1 0x58 refl) refl
+    plain {a = 0x58} {b = c · 0} refl refl
     (two (Bcc16 c) (taken {x = bccDigit (c · 0)} {k = 0} (omega arith) ∙ ap (λ x. Lacks (Bcc16 x)) (digits-div c (omega arith))) refl (ap (λ x. Bcc c (Far x)) (low16 d (v .1))))
 
 jmp-shape : (t : Target) → Valid (Jmp t) → Shape (Jmp t) (codeOf (Jmp t))
 jmp-shape (ByReg e) v = one refl refl (digits (λ x y. pick (eqb y 0) (below x 8 (Whole (Jmp (ByReg x)))) Nothing) e (omega arith) ∙ short v)
-jmp-shape (Direct a) v = plain {b = a / 65536} (not1 0x5A refl) refl (two (Jmp24 (a / 65536)) refl refl (ap (λ x. Jmp (Direct x)) (apart24 a v)))
+jmp-shape (Direct a) v = plain {b = a / 65536} refl refl (two (Jmp24 (a / 65536)) refl refl (ap (λ x. Jmp (Direct x)) (apart24 a v)))
 jmp-shape (Vector a) v = one refl refl refl
 
 jsr-shape : (t : Target) → Valid (Jsr t) → Shape (Jsr t) (codeOf (Jsr t))
 jsr-shape (ByReg e) v = one refl refl (digits (λ x y. pick (eqb y 0) (below x 8 (Whole (Jsr (ByReg x)))) Nothing) e (omega arith) ∙ short v)
-jsr-shape (Direct a) v = plain {b = a / 65536} (not1 0x5E refl) refl (two (Jsr24 (a / 65536)) refl refl (ap (λ x. Jsr (Direct x)) (apart24 a v)))
+jsr-shape (Direct a) v = plain {b = a / 65536} refl refl (two (Jsr24 (a / 65536)) refl refl (ap (λ x. Jsr (Direct x)) (apart24 a v)))
 jsr-shape (Vector a) v = one refl refl refl
 
 bsr-shape : (k : Reach) → Valid (Bsr k) → Shape (Bsr k) (codeOf (Bsr k))
 bsr-shape (Near d) v = one refl refl refl
-bsr-shape (Far d) v = plain {b = 0} (not1 0x5C refl) refl (two Bsr16 refl refl (ap (λ x. Bsr (Far x)) (low16 d v)))
+bsr-shape (Far d) v = plain {b = 0} refl refl (two Bsr16 refl refl (ap (λ x. Bsr (Far x)) (low16 d v)))
 
 change-shape : (change : Change) (v : ℕ) → Shape (Ccr change v) (codeOf (Ccr change v))
 change-shape Orc v = one refl refl refl
@@ -359,6 +497,8 @@ shape (Shift t w r) v = shift-shape t w r v
 shape (Unary u w r) v = unary-shape u w r v
 shape (Multiply sign h s d) v = multiply-shape sign h s d (v .1)
 shape (Divide sign h s d) v = divide-shape sign h s d (v .1)
+shape (Takes take index spot) v = take-shape take index spot v
+shape (Gives give index spot) v = give-shape give index spot v
 shape (Move dir w p r) v = move-shape dir w p r v
 shape (Bcc c k) v = bcc-shape c k v
 shape (Jmp t) v = jmp-shape t v

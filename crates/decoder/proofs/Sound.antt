@@ -1,5 +1,5 @@
 -- What the decoder finds stands in the code list: an instruction whose code begins the bytes, or one of whose code they are a proper beginning.
-use Prim.Native.Nat.{ℕ, _+_, _*_, _<_}
+use Prim.Native.Nat.{ℕ, _+_, _*_, _/_, _%_, _<_}
 use mathlib.Core.Path.{_≡_, refl, sym, ap, _∙_, subst}
 use mathlib.Core.Logic.{_⊎_, inl, inr}
 use mathlib.Core.Bool.{Bool, true, false}
@@ -8,15 +8,15 @@ use native.Mathlib.Omega.{arith}
 use lib.Dec.{eqb}
 use lib.ListN.{length, length-append}
 use borrow.Author.Tests.{eqb-true, eqb-false}
-use Rattle.decoder.specs.Names.{Long, Or, Reg, Eight, Signed, Load, At, Instruction, Nop, Alu, Multiply, Divide, Move, Rts, Rest, Plan, Whole, Lacks, Nothing, Tail, Bits16}
+use Rattle.decoder.specs.Names.{Long, Or, Reg, Eight, Signed, Btst, Bset, Numbered, AtEr, AtAbs, Load, At, Instruction, Nop, Alu, Multiply, Divide, Takes, Gives, Move, Rts, Rest, Plan, Whole, Lacks, Nothing, Tail, Bits16}
 use Rattle.decoder.specs.Names.{Bits24, Bits32, Found, Is, Cut, Unlisted}
-use Rattle.codes.specs.Code.{codeOf}
+use Rattle.codes.specs.Code.{_·_, codeOf}
 use Rattle.codes.specs.Valid.{Valid}
 use Rattle.codes.specs.Exact.{Bytes, Begins, CutOf}
-use Rattle.decoder.specs.MirrorDecode.{tailOf, fillOf, with16, with32, with24, byTail, finishOf, begunOf, startsOf, prefixedOf, foundOf}
-use Rattle.decoder.specs.MirrorWords.{planOf, afterOf}
+use Rattle.decoder.specs.MirrorDecode.{tailOf, fillOf, with16, with32, with24, byTail, finishOf, begunOf, twoWords, startsOf, prefix01, prefixEr, prefixOf, prefixedOf, foundOf}
+use Rattle.decoder.specs.MirrorWords.{pick, planOf, afterOf}
 use Rattle.decoder.proofs.Complete.{word-first, word-second, sixteen, thirty-two, zero-first, not-zero-first}
-use Rattle.decoder.proofs.Good.{Codes, Good2, Good3, Good4, GoodTail, Good, if≡, plan-good, after-good}
+use Rattle.decoder.proofs.Good.{Codes, Good2, Good3, Good4, GoodTail, Good, if≡, if<, four≡, plan-good, after-good}
 
 -- what an answer says of the bytes, but for `Unlisted`
 abbrev pub Sound : List ℕ → Found → Type 0
@@ -27,7 +27,7 @@ Sound s Unlisted = Unit {0}
 by : (s : List ℕ) {r r' : Found} → r' ≡ r → Sound s r → Sound s r'
 by s e h = subst (λ r. Sound s r) (sym e) h
 
-pub dec≡ : (x k : ℕ) → (x ≡ k) ⊎ (x ≡ k → ⊥)
+dec≡ : (x k : ℕ) → (x ≡ k) ⊎ (x ≡ k → ⊥)
 dec≡ x k = go (eqb x k) refl
   where
     go : (t : Bool) → eqb x k ≡ t → (x ≡ k) ⊎ (x ≡ k → ⊥)
@@ -110,32 +110,69 @@ module _ (pre : List ℕ) (a : ℕ) where
   begun-sound (Lacks q) g = first-tail (tailOf q) q g
   begun-sound Nothing g = tt
 
+-- the first byte of an instruction's two words
+first-of : (a : ℕ) (i : Instruction) {k c : ℕ} → Valid i → codeOf i ≡ k ∷ 0 ∷ c ∷ 0 ∷ [] → a ≡ k → Sound (a ∷ []) Cut
+first-of a i {c = c} v e h = (i, v, (0, c ∷ 0 ∷ [], e ∙ four≡ [] (sym h) refl refl refl))
+
 start-sound : (a : ℕ) → a < 256 → Sound (a ∷ []) (startsOf a)
 start-sound a h =
-    if≡ (Sound (a ∷ [])) a 0x01
-    (λ k. (Move Load Long (At 0) 0, (omega arith, omega arith), (0, 0x69 ∷ 0 ∷ [], ap (λ x. x ∷ 0 ∷ 0x69 ∷ 0 ∷ []) (sym k)))) λ n1.
+    if≡ P a 0x01 (first-of a (Move Load Long (At 0) 0) (omega arith, omega arith) refl) λ n01.
+    if≡ P a 0x7C (first-of a (Takes Btst (Numbered 0) (AtEr 0)) (omega arith, omega arith) refl) λ n7C.
+    if≡ P a 0x7D (first-of a (Gives Bset (Numbered 0) (AtEr 0)) (omega arith, omega arith) refl) λ n7D.
+    if≡ P a 0x7E (first-of a (Takes Btst (Numbered 0) (AtAbs 0)) (omega arith, omega arith) refl) λ n7E.
+    if≡ P a 0x7F (first-of a (Gives Bset (Numbered 0) (AtAbs 0)) (omega arith, omega arith) refl) λ n7F.
     if≡ (Sound (a ∷ [])) a 0x54 (λ k. (Rts, tt, (0x70, [], ap (λ x. x ∷ 0x70 ∷ []) (sym k)))) λ n54.
     begun-sound [] a (planOf a 0) (plan-good a 0 (omega arith) h)
+  where
+    P : Bool → Type 0
+    P two = Sound (a ∷ []) (pick two Cut (pick (eqb a 0x54) Cut (begunOf (planOf a 0))))
 
-prefixed-sound : (b : ℕ) (t : List ℕ) → Bytes t → Sound (1 ∷ b ∷ t) (prefixedOf b t)
-prefixed-sound b [] h =
-    if≡ (Sound (1 ∷ b ∷ [])) b 0x00
-    (λ k. (Move Load Long (At 0) 0, (omega arith, omega arith), (0x69, 0 ∷ [], ap (λ x. 1 ∷ x ∷ 0x69 ∷ 0 ∷ []) (sym k)))) λ n0.
-    if≡ (Sound (1 ∷ b ∷ [])) b 0xC0
-    (λ k. (Multiply Signed Eight 0 0, (omega arith, omega arith), (0x50, 0 ∷ [], ap (λ x. 1 ∷ x ∷ 0x50 ∷ 0 ∷ []) (sym k)))) λ nC0.
-    if≡ (Sound (1 ∷ b ∷ [])) b 0xD0
-    (λ k. (Divide Signed Eight 0 0, (omega arith, omega arith), (0x51, 0 ∷ [], ap (λ x. 1 ∷ x ∷ 0x51 ∷ 0 ∷ []) (sym k)))) λ nD0.
-    if≡ (Sound (1 ∷ b ∷ [])) b 0xF0 (λ k. (Alu Or Long (Reg 0) 0, omega arith, (0x64, 0 ∷ [], ap (λ x. 1 ∷ x ∷ 0x64 ∷ 0 ∷ []) (sym k)))) λ nF0. tt
-prefixed-sound b (c ∷ []) h = begun-sound (1 ∷ b ∷ []) c (afterOf b c 0) (after-good c 0 (omega arith) b)
-prefixed-sound b (c ∷ d ∷ t) h =
-    by (1 ∷ b ∷ c ∷ d ∷ t) (word-second b c d t)
-    (finish-sound (1 ∷ b ∷ []) c d (afterOf b c d) (after-good c d (h .1 .0) b) t (h .1 .1) 4 refl)
+-- an instruction's first word
+word-of : (a b : ℕ) (i : Instruction) (c : ℕ) → Valid i → codeOf i ≡ a ∷ b ∷ c ∷ 0 ∷ [] → Sound (a ∷ b ∷ []) Cut
+word-of a b i c v e = (i, v, (c, 0 ∷ [], e))
+
+prefix01-sound : (b : ℕ) → Sound (1 ∷ b ∷ []) (prefix01 b)
+prefix01-sound b =
+    if≡ (Sound (1 ∷ b ∷ [])) b 0x00 (λ k. word-of 1 b (Move Load Long (At 0) 0) 0x69 (omega arith, omega arith) (four≡ [] refl (sym k) refl refl)) λ n0.
+    if≡ (Sound (1 ∷ b ∷ [])) b 0xC0 (λ k. word-of 1 b (Multiply Signed Eight 0 0) 0x50 (omega arith, omega arith) (four≡ [] refl (sym k) refl refl)) λ nC0.
+    if≡ (Sound (1 ∷ b ∷ [])) b 0xD0 (λ k. word-of 1 b (Divide Signed Eight 0 0) 0x51 (omega arith, omega arith) (four≡ [] refl (sym k) refl refl)) λ nD0.
+    if≡ (Sound (1 ∷ b ∷ [])) b 0xF0 (λ k. word-of 1 b (Alu Or Long (Reg 0) 0) 0x64 (omega arith) (four≡ [] refl (sym k) refl refl)) λ nF0. tt
+
+-- e0
+er-sound : (a b : ℕ) (make : ℕ → Instruction) (c : ℕ) → ((e : ℕ) → e < 8 → Valid (make e)) → ((e : ℕ) → codeOf (make e) ≡ a ∷ e · 0 ∷ c ∷ 0 ∷ [])
+    → Sound (a ∷ b ∷ []) (prefixEr b)
+er-sound a b make c v f =
+    if≡ (Sound (a ∷ b ∷ [])) (b % 16) 0
+    (λ z. if< (Sound (a ∷ b ∷ [])) b 128
+    (λ l. word-of a b (make (b / 16)) c (v (b / 16) (omega arith)) (f (b / 16) ∙ four≡ [] refl (omega arith) refl refl))
+    (λ l. tt))
+    (λ z. tt)
+
+prefix-sound : (a b : ℕ) → b < 256 → Sound (a ∷ b ∷ []) (prefixOf a b)
+prefix-sound a b hb =
+    if≡ (Sound (a ∷ b ∷ [])) a 0x01 (λ k. subst (λ x. Sound (x ∷ b ∷ []) (prefix01 b)) (sym k) (prefix01-sound b)) λ n01.
+    if≡ (Sound (a ∷ b ∷ [])) a 0x7C
+    (λ k. er-sound a b (λ e. Takes Btst (Numbered 0) (AtEr e)) 0x73 (λ e l. (omega arith, l)) (λ e. four≡ [] (sym k) refl refl refl)) λ n7C.
+    if≡ (Sound (a ∷ b ∷ [])) a 0x7D
+    (λ k. er-sound a b (λ e. Gives Bset (Numbered 0) (AtEr e)) 0x70 (λ e l. (omega arith, l)) (λ e. four≡ [] (sym k) refl refl refl)) λ n7D.
+    if≡ (Sound (a ∷ b ∷ [])) a 0x7E (λ k. word-of a b (Takes Btst (Numbered 0) (AtAbs b)) 0x73 (omega arith, hb) (four≡ [] (sym k) refl refl refl)) λ n7E.
+    if≡ (Sound (a ∷ b ∷ [])) a 0x7F (λ k. word-of a b (Gives Bset (Numbered 0) (AtAbs b)) 0x70 (omega arith, hb) (four≡ [] (sym k) refl refl refl)) λ n7F. tt
+
+prefixed-sound : (a b : ℕ) → b < 256 → (t : List ℕ) → Bytes t → Sound (a ∷ b ∷ t) (prefixedOf a b t)
+prefixed-sound a b hb [] h = prefix-sound a b hb
+prefixed-sound a b hb (c ∷ []) h = begun-sound (a ∷ b ∷ []) c (afterOf a b c 0) (after-good c 0 (omega arith) a b hb)
+prefixed-sound a b hb (c ∷ d ∷ t) h =
+    by (a ∷ b ∷ c ∷ d ∷ t) (word-second a b c d t)
+    (finish-sound (a ∷ b ∷ []) c d (afterOf a b c d) (after-good c d (h .1 .0) a b hb) t (h .1 .1) 4 refl)
+
+both : (s : List ℕ) (two : Bool) (r r' : Found) → Sound s r → Sound s r' → Sound s (pick two r r')
+both s true r r' h h' = h
+both s false r r' h h' = h'
 
 pub sound : (s : List ℕ) → Bytes s → Sound s (foundOf s)
 sound [] h = (Nop, tt, (0, 0 ∷ [], refl))
 sound (a ∷ []) h = start-sound a (h .0)
 sound (a ∷ b ∷ t) h =
     by (a ∷ b ∷ t) (word-first a b t)
-    (if≡ (Sound (a ∷ b ∷ t)) a 1
-    (λ k. subst (λ x. Sound (x ∷ b ∷ t) (prefixedOf b t)) (sym k) (prefixed-sound b t (h .1 .1)))
-    (λ k. finish-sound [] a b (planOf a b) (plan-good a b (h .1 .0) (h .0)) t (h .1 .1) 2 refl))
+    (both (a ∷ b ∷ t) (twoWords a) (prefixedOf a b t) (finishOf (planOf a b) t 2) (prefixed-sound a b (h .1 .0) t (h .1 .1))
+    (finish-sound [] a b (planOf a b) (plan-good a b (h .1 .0) (h .0)) t (h .1 .1) 2 refl))

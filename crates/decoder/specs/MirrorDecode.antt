@@ -1,6 +1,7 @@
 -- What bytes begin with, case by case as the code of `src/whole.rt` does, and `foundOf`, which asks first how many they are. As in
 -- `MirrorWords`, nothing here is to be believed.
 use Prim.Native.Nat.{ℕ, _+_, _*_, _%_}
+use mathlib.Core.Bool.{Bool, true, false}
 use mathlib.Core.List.{List}
 use lib.Dec.{ltb, eqb}
 use lib.ListN.{length, getD, drop}
@@ -62,30 +63,49 @@ begunOf (Whole i) = Cut
 begunOf (Lacks q) = Cut
 begunOf Nothing = Unlisted
 
+abbrev pub twoWords : ℕ → Bool
+twoWords a =
+    pick (eqb a 0x01) true
+    (pick (eqb a 0x7C) true
+    (pick (eqb a 0x7D) true
+    (pick (eqb a 0x7E) true
+    (pick (eqb a 0x7F) true false))))
+
 abbrev pub aloneOf : ℕ → Plan → Found
-aloneOf a p = pick (eqb a 0x01) Cut (pick (eqb a 0x54) Cut (begunOf p))
+aloneOf a p = pick (twoWords a) Cut (pick (eqb a 0x54) Cut (begunOf p))
 
 abbrev pub startsOf : ℕ → Found
 startsOf a = aloneOf a (planOf a 0)
 
-abbrev pub prefixOf : ℕ → Found
-prefixOf b =
+abbrev pub prefix01 : ℕ → Found
+prefix01 b =
     pick (eqb b 0x00) Cut
     (pick (eqb b 0xC0) Cut
     (pick (eqb b 0xD0) Cut
     (pick (eqb b 0xF0) Cut Unlisted)))
 
-abbrev pub prefixedOf : ℕ → List ℕ → Found
-prefixedOf b rest =
-    pick (eqb (length rest) 0) (prefixOf b)
-    (pick (eqb (length rest) 1) (begunOf (afterOf b (getD rest 0 0) 0))
-    (finishOf (afterOf b (getD rest 0 0) (getD rest 1 0)) (drop 2 rest) 4))
+abbrev pub prefixEr : ℕ → Found
+prefixEr b = pick (eqb (b % 16) 0) (pick (ltb b 128) Cut Unlisted) Unlisted
+
+abbrev pub prefixOf : ℕ → ℕ → Found
+prefixOf a b =
+    pick (eqb a 0x01) (prefix01 b)
+    (pick (eqb a 0x7C) (prefixEr b)
+    (pick (eqb a 0x7D) (prefixEr b)
+    (pick (eqb a 0x7E) Cut
+    (pick (eqb a 0x7F) Cut Unlisted))))
+
+abbrev pub prefixedOf : ℕ → ℕ → List ℕ → Found
+prefixedOf a b rest =
+    pick (eqb (length rest) 0) (prefixOf a b)
+    (pick (eqb (length rest) 1) (begunOf (afterOf a b (getD rest 0 0) 0))
+    (finishOf (afterOf a b (getD rest 0 0) (getD rest 1 0)) (drop 2 rest) 4))
 
 abbrev pub foundOf : List ℕ → Found
 foundOf s =
     pick (eqb (length s) 0) Cut
     (pick (eqb (length s) 1) (startsOf (getD s 0 0))
-    (pick (eqb (getD s 0 0) 1) (prefixedOf (getD s 1 0) (drop 2 s))
+    (pick (twoWords (getD s 0 0)) (prefixedOf (getD s 0 0) (getD s 1 0) (drop 2 s))
     (finishOf (planOf (getD s 0 0) (getD s 1 0)) (drop 2 s) 2)))
 
 -- the code finds the same another way: the words are planned, with 0 for a byte that is missing, and then it asks how many bytes there are;
@@ -94,14 +114,14 @@ abbrev pub shortOf : Plan → List ℕ → Found
 shortOf p s =
     pick (eqb (length s) 0) Cut
     (pick (eqb (length s) 1) (aloneOf (getD s 0 0) p)
-    (pick (eqb (length s) 2) (prefixOf (getD s 1 0)) (begunOf p)))
+    (pick (eqb (length s) 2) (prefixOf (getD s 0 0) (getD s 1 0)) (begunOf p)))
 
 abbrev pub leadOf : ℕ → ℕ
-leadOf a = pick (eqb a 1) 4 2
+leadOf a = pick (twoWords a) 4 2
 
 abbrev pub plannedOf : List ℕ → Plan
 plannedOf s =
-    pick (eqb (getD s 0 0) 1) (afterOf (getD s 1 0) (getD s 2 0) (getD s 3 0))
+    pick (twoWords (getD s 0 0)) (afterOf (getD s 0 0) (getD s 1 0) (getD s 2 0) (getD s 3 0))
     (planOf (getD s 0 0) (getD s 1 0))
 
 abbrev pub placedOf : ℕ → List ℕ → Found → Decoded

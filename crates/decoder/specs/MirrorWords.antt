@@ -6,8 +6,9 @@ use lib.Dec.{ltb, eqb}
 use Rattle.products.specs.Products.{productWidth}
 use Rattle.decoder.specs.Names.{Width, Byte, Word, Long, Op, Add, Sub, Cmp, Mov, Addx, Subx, Or, Xor, And, Reg, Imm, Way, Up, Down, By, One, Two, Four}
 use Rattle.decoder.specs.Names.{Turn, Shll, Shlr, Rotxl, Rotxr, Shal, Shar, Rotl, Rotr, Single, Not, Neg, Extu, Exts, Half, Eight, Sixteen, Sign, Unsigned, Signed, Change, Orc, Xorc, Andc, Ldc}
+use Rattle.decoder.specs.Names.{Take, Btst, Bor, Bior, Bxor, Bixor, Band, Biand, Bld, Bild, Give, Bset, Bnot, Bclr, Bst, Bist, Numbered, ByPart, Spot, InPart, AtEr, AtAbs}
 use Rattle.decoder.specs.Names.{Dir, Load, Store, Place, At, Step, Disp, Abs8, Abs16, Abs24, Reach, Near, Far, Target, ByReg, Direct, Vector}
-use Rattle.decoder.specs.Names.{Instruction, Nop, Stc, LdcReg, Ccr, Alu, IncDec, AddsSubs, Decimal, Shift, Unary, Multiply, Divide, Move, Bcc, Jmp, Bsr, Jsr, Rts}
+use Rattle.decoder.specs.Names.{Instruction, Nop, Stc, LdcReg, Ccr, Alu, IncDec, AddsSubs, Decimal, Shift, Unary, Multiply, Divide, Takes, Gives, Move, Bcc, Jmp, Bsr, Jsr, Rts}
 use Rattle.decoder.specs.Names.{Imm16, Imm32, Disp16, Aa16, Aa24, Bcc16, Bsr16, Jmp24, Jsr24, Plan, Whole, Lacks, Nothing, Mode, Plain, Stepping, Displaced, Absolute}
 
 abbrev pub pick : {A : Type 0} → Bool → A → A → A
@@ -19,6 +20,9 @@ exactly x k p = pick (eqb x k) p Nothing
 
 abbrev pub below : ℕ → ℕ → Plan → Plan
 below x k p = pick (ltb x k) p Nothing
+
+abbrev pub eZero : ℕ → Plan → Plan
+eZero b p = exactly (b % 16) 0 (below (b / 16) 8 p)
 
 abbrev pub held : Width → ℕ → Plan → Plan
 held Byte d p = p
@@ -159,10 +163,10 @@ abbrev pub bsr16 : ℕ → Plan
 bsr16 b = exactly b 0 (Lacks Bsr16)
 
 abbrev pub jmpReg : ℕ → Plan
-jmpReg b = exactly (b % 16) 0 (below (b / 16) 8 (Whole (Jmp (ByReg (b / 16)))))
+jmpReg b = eZero b (Whole (Jmp (ByReg (b / 16))))
 
 abbrev pub jsrReg : ℕ → Plan
-jsrReg b = exactly (b % 16) 0 (below (b / 16) 8 (Whole (Jsr (ByReg (b / 16)))))
+jsrReg b = eZero b (Whole (Jsr (ByReg (b / 16))))
 
 abbrev pub row5 : ℕ → ℕ → Plan
 row5 lo b =
@@ -195,11 +199,59 @@ moveOf w Absolute dir e r = absoluteOf w dir e r
 abbrev pub memoryOf : Width → Mode → ℕ → Plan
 memoryOf w mode b = pick (ltb b 128) (moveOf w mode Load (b / 16) (b % 16)) (moveOf w mode Store (b / 16 - 8) (b % 16))
 
+abbrev pub takeByPart : Take → ℕ → Spot → Plan
+takeByPart take b spot = Whole (Takes take (ByPart (b / 16)) spot)
+
+abbrev pub giveByPart : Give → ℕ → Spot → Plan
+giveByPart give b spot = Whole (Gives give (ByPart (b / 16)) spot)
+
+abbrev pub takeNumbered : Take → ℕ → Spot → Plan
+takeNumbered take b spot = below b 128 (Whole (Takes take (Numbered (b / 16)) spot))
+
+abbrev pub giveNumbered : Give → ℕ → Spot → Plan
+giveNumbered give b spot = below b 128 (Whole (Gives give (Numbered (b / 16)) spot))
+
+abbrev pub takeEither : Take → Take → ℕ → Spot → Plan
+takeEither take inverted b spot = pick (ltb b 128) (Whole (Takes take (Numbered (b / 16)) spot)) (Whole (Takes inverted (Numbered (b / 16 - 8)) spot))
+
+abbrev pub giveEither : Give → Give → ℕ → Spot → Plan
+giveEither give inverted b spot = pick (ltb b 128) (Whole (Gives give (Numbered (b / 16)) spot)) (Whole (Gives inverted (Numbered (b / 16 - 8)) spot))
+
+abbrev pub readsOf : ℕ → ℕ → Spot → Plan
+readsOf c d spot =
+    pick (eqb c 0x63) (takeByPart Btst d spot)
+    (pick (eqb c 0x73) (takeNumbered Btst d spot)
+    (pick (eqb c 0x74) (takeEither Bor Bior d spot)
+    (pick (eqb c 0x75) (takeEither Bxor Bixor d spot)
+    (pick (eqb c 0x76) (takeEither Band Biand d spot)
+    (pick (eqb c 0x77) (takeEither Bld Bild d spot) Nothing)))))
+
+abbrev pub writesOf : ℕ → ℕ → Spot → Plan
+writesOf c d spot =
+    pick (eqb c 0x60) (giveByPart Bset d spot)
+    (pick (eqb c 0x61) (giveByPart Bnot d spot)
+    (pick (eqb c 0x62) (giveByPart Bclr d spot)
+    (pick (eqb c 0x67) (giveEither Bst Bist d spot)
+    (pick (eqb c 0x70) (giveNumbered Bset d spot)
+    (pick (eqb c 0x71) (giveNumbered Bnot d spot)
+    (pick (eqb c 0x72) (giveNumbered Bclr d spot) Nothing))))))
+
+abbrev pub readsPart : ℕ → ℕ → Plan
+readsPart a b = readsOf a b (InPart (b % 16))
+
+abbrev pub writesPart : ℕ → ℕ → Plan
+writesPart a b = writesOf a b (InPart (b % 16))
+
 abbrev pub row6 : ℕ → ℕ → Plan
 row6 lo b =
-    pick (eqb lo 0x4) (regReg Or Word b)
+    pick (eqb lo 0x0) (writesPart 0x60 b)
+    (pick (eqb lo 0x1) (writesPart 0x61 b)
+    (pick (eqb lo 0x2) (writesPart 0x62 b)
+    (pick (eqb lo 0x3) (readsPart 0x63 b)
+    (pick (eqb lo 0x4) (regReg Or Word b)
     (pick (eqb lo 0x5) (regReg Xor Word b)
     (pick (eqb lo 0x6) (regReg And Word b)
+    (pick (eqb lo 0x7) (writesPart 0x67 b)
     (pick (eqb lo 0x8) (memoryOf Byte Plain b)
     (pick (eqb lo 0x9) (memoryOf Word Plain b)
     (pick (eqb lo 0xA) (memoryOf Byte Absolute b)
@@ -207,7 +259,7 @@ row6 lo b =
     (pick (eqb lo 0xC) (memoryOf Byte Stepping b)
     (pick (eqb lo 0xD) (memoryOf Word Stepping b)
     (pick (eqb lo 0xE) (memoryOf Byte Displaced b)
-    (pick (eqb lo 0xF) (memoryOf Word Displaced b) Nothing))))))))))
+    (pick (eqb lo 0xF) (memoryOf Word Displaced b) Nothing)))))))))))))))
 
 abbrev pub firstOp : ℕ → Op
 firstOp d =
@@ -236,8 +288,16 @@ imm32 b = below b 0x70 (below (b % 16) 8 (Lacks (Imm32 (nextOp (b / 16)) (b % 16
 
 abbrev pub row7 : ℕ → ℕ → Plan
 row7 lo b =
-    pick (eqb lo 0x9) (imm16 b)
-    (pick (eqb lo 0xA) (imm32 b) Nothing)
+    pick (eqb lo 0x0) (writesPart 0x70 b)
+    (pick (eqb lo 0x1) (writesPart 0x71 b)
+    (pick (eqb lo 0x2) (writesPart 0x72 b)
+    (pick (eqb lo 0x3) (readsPart 0x73 b)
+    (pick (eqb lo 0x4) (readsPart 0x74 b)
+    (pick (eqb lo 0x5) (readsPart 0x75 b)
+    (pick (eqb lo 0x6) (readsPart 0x76 b)
+    (pick (eqb lo 0x7) (readsPart 0x77 b)
+    (pick (eqb lo 0x9) (imm16 b)
+    (pick (eqb lo 0xA) (imm32 b) Nothing)))))))))
 
 abbrev pub plans : ℕ → ℕ → ℕ → Plan
 plans hi lo b =
@@ -282,9 +342,23 @@ afterF0 c d =
     (pick (eqb c 0x65) (longLogic Xor d)
     (pick (eqb c 0x66) (longLogic And d) Nothing))
 
-abbrev pub afterOf : ℕ → ℕ → ℕ → Plan
-afterOf b c d =
+abbrev pub after01 : ℕ → ℕ → ℕ → Plan
+after01 b c d =
     pick (eqb b 0x00) (after00 c d)
     (pick (eqb b 0xC0) (afterC0 c d)
     (pick (eqb b 0xD0) (afterD0 c d)
     (pick (eqb b 0xF0) (afterF0 c d) Nothing)))
+
+abbrev pub readsMemory : ℕ → ℕ → Spot → Plan
+readsMemory c d spot = exactly (d % 16) 0 (readsOf c d spot)
+
+abbrev pub writesMemory : ℕ → ℕ → Spot → Plan
+writesMemory c d spot = exactly (d % 16) 0 (writesOf c d spot)
+
+abbrev pub afterOf : ℕ → ℕ → ℕ → ℕ → Plan
+afterOf a b c d =
+    pick (eqb a 0x01) (after01 b c d)
+    (pick (eqb a 0x7C) (eZero b (readsMemory c d (AtEr (b / 16))))
+    (pick (eqb a 0x7D) (eZero b (writesMemory c d (AtEr (b / 16))))
+    (pick (eqb a 0x7E) (readsMemory c d (AtAbs b))
+    (pick (eqb a 0x7F) (writesMemory c d (AtAbs b)) Nothing))))

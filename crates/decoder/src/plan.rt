@@ -1,16 +1,20 @@
 // The forms that a word of a code can have: a whole instruction, one that lacks its last bytes, or nothing.
 ghost use mathlib.Core.Path.{_≡_};
-ghost use Rattle.decoder.specs.MirrorWords.{exactly, below, held, nopOf, stcOf, ldcOf, ccrOf, counted, stepped, turned, singleOf, rtsOf, bcc16, bsr16, jmpReg, jsrReg, imm16, imm32, regReg, multiplied, divided, longReg, incOrLong, decimalOrLong, absoluteOf, moveOf, memoryOf, firstOp, nextOp, longMemory, longLogic};
+ghost use Rattle.decoder.specs.MirrorWords.{exactly, below, held, nopOf, stcOf, ldcOf, ccrOf, counted, stepped, turned, singleOf, rtsOf, bcc16, bsr16, jmpReg, jsrReg, imm16, imm32, regReg, multiplied, divided, longReg, incOrLong, decimalOrLong, absoluteOf, moveOf, memoryOf, firstOp, nextOp, longMemory, longLogic, eZero, takeByPart, takeNumbered, takeEither, giveByPart, giveNumbered, giveEither};
 use arith::Width;
 use codes::By;
 use codes::Change;
 use codes::Dir;
+use codes::Give;
+use codes::Index;
 use codes::Instruction;
 use codes::Op;
 use codes::Place;
 use codes::Sign;
 use codes::Single;
 use codes::Source;
+use codes::Spot;
+use codes::Take;
 use codes::Target;
 use codes::Turn;
 use codes::Way;
@@ -56,6 +60,13 @@ pub fn below(x: u8, k: u8, p: Plan) -> Plan
     ensures { λ r. ⌜ r ≡ below x k p ⌝ }
 {
     if x < k { p } else { Plan::Nothing }
+}
+
+// Only where the byte is e0.
+pub fn e_zero(b: u8, p: Plan) -> Plan
+    ensures { λ r. ⌜ r ≡ eZero b p ⌝ }
+{
+    exactly(b % 16, 0, below(b / 16, 8, p))
 }
 
 // A register digit: r of a byte or a word, e of a long.
@@ -205,29 +216,13 @@ pub fn bsr_16(b: u8) -> Plan
 pub fn jmp_reg(b: u8) -> Plan
     ensures { λ r. ⌜ r ≡ jmpReg b ⌝ }
 {
-    exactly(
-        b % 16,
-        0,
-        below(
-            b / 16,
-            8,
-            Plan::Whole(Instruction::Jmp(Target::ByReg(b / 16))),
-        ),
-    )
+    e_zero(b, Plan::Whole(Instruction::Jmp(Target::ByReg(b / 16))))
 }
 
 pub fn jsr_reg(b: u8) -> Plan
     ensures { λ r. ⌜ r ≡ jsrReg b ⌝ }
 {
-    exactly(
-        b % 16,
-        0,
-        below(
-            b / 16,
-            8,
-            Plan::Whole(Instruction::Jsr(Target::ByReg(b / 16))),
-        ),
-    )
+    e_zero(b, Plan::Whole(Instruction::Jsr(Target::ByReg(b / 16))))
 }
 
 pub fn absolute(w: Width, dir: Dir, e: u8, r: u8) -> Plan
@@ -321,4 +316,59 @@ pub fn long_logic(op: Op, d: u8) -> Plan
     ensures { λ r. ⌜ r ≡ longLogic op d ⌝ }
 {
     below(d, 128, below(d % 16, 8, reg_reg(op, Width::Long, d)))
+}
+
+// A bit's number in a byte register: the upper digit
+pub fn take_by_part(take: Take, b: u8, spot: Spot) -> Plan
+    ensures { λ r. ⌜ r ≡ takeByPart take b spot ⌝ }
+{
+    Plan::Whole(Instruction::Takes(take, Index::ByPart(b / 16), spot))
+}
+
+pub fn give_by_part(give: Give, b: u8, spot: Spot) -> Plan
+    ensures { λ r. ⌜ r ≡ giveByPart give b spot ⌝ }
+{
+    Plan::Whole(Instruction::Gives(give, Index::ByPart(b / 16), spot))
+}
+
+// A bit's number in the code: an upper digit 0 to 7
+pub fn take_numbered(take: Take, b: u8, spot: Spot) -> Plan
+    ensures { λ r. ⌜ r ≡ takeNumbered take b spot ⌝ }
+{
+    below(
+        b,
+        128,
+        Plan::Whole(Instruction::Takes(take, Index::Numbered(b / 16), spot)),
+    )
+}
+
+pub fn give_numbered(give: Give, b: u8, spot: Spot) -> Plan
+    ensures { λ r. ⌜ r ≡ giveNumbered give b spot ⌝ }
+{
+    below(
+        b,
+        128,
+        Plan::Whole(Instruction::Gives(give, Index::Numbered(b / 16), spot)),
+    )
+}
+
+// or with 8 added to it, for the inverted instruction
+pub fn take_either(take: Take, inverted: Take, b: u8, spot: Spot) -> Plan
+    ensures { λ r. ⌜ r ≡ takeEither take inverted b spot ⌝ }
+{
+    if b < 128 {
+        Plan::Whole(Instruction::Takes(take, Index::Numbered(b / 16), spot))
+    } else {
+        Plan::Whole(Instruction::Takes(inverted, Index::Numbered(b / 16 - 8), spot))
+    }
+}
+
+pub fn give_either(give: Give, inverted: Give, b: u8, spot: Spot) -> Plan
+    ensures { λ r. ⌜ r ≡ giveEither give inverted b spot ⌝ }
+{
+    if b < 128 {
+        Plan::Whole(Instruction::Gives(give, Index::Numbered(b / 16), spot))
+    } else {
+        Plan::Whole(Instruction::Gives(inverted, Index::Numbered(b / 16 - 8), spot))
+    }
 }

@@ -2,7 +2,7 @@
 ghost use mathlib.Core.Path.{_≡_};
 ghost use Prim.Native.Nat.{_<_};
 ghost use lib.ListN.{getD};
-ghost use Rattle.decoder.specs.MirrorDecode.{tailOf, fillOf, with16, with24, with32, byTail, finishOf, begunOf, aloneOf, prefixOf, shortOf, leadOf, plannedOf, foundOf};
+ghost use Rattle.decoder.specs.MirrorDecode.{tailOf, fillOf, with16, with24, with32, byTail, finishOf, begunOf, twoWords, aloneOf, prefix01, prefixEr, prefixOf, shortOf, leadOf, plannedOf, foundOf};
 use crate::plan::Plan;
 use crate::plan::Rest;
 use arith::Width;
@@ -137,20 +137,33 @@ fn begun(p: Plan) -> Found
     }
 }
 
-// A single byte, and the plan of its word with the second byte 0: a byte that begins a code begins one with 0, but for 01 and 54.
-fn alone(a: u8, p: Plan) -> Found
-    ensures { λ r. ⌜ r ≡ aloneOf a p ⌝ }
+// Whether the codes that begin with a have two words.
+fn two_words(a: u8) -> bool
+    ensures { λ r. ⌜ r ≡ twoWords a ⌝ }
 {
     match a {
-        0x01 => Found::Cut,
-        0x54 => Found::Cut,
-        _ => begun(p),
+        0x01 => true,
+        0x7C => true,
+        0x7D => true,
+        0x7E => true,
+        0x7F => true,
+        _ => false,
     }
 }
 
+// A single byte, and the plan of its word with the second byte 0: a byte that begins a code of one word begins one with 0, but for 54.
+fn alone(a: u8, p: Plan) -> Found
+    ensures { λ r. ⌜ r ≡ aloneOf a p ⌝ }
+{
+    if two_words(a) {
+        return Found::Cut;
+    }
+    if a == 0x54 { Found::Cut } else { begun(p) }
+}
+
 // 01 and a byte, and nothing more.
-fn prefix(b: u8) -> Found
-    ensures { λ r. ⌜ r ≡ prefixOf b ⌝ }
+fn prefix_01(b: u8) -> Found
+    ensures { λ r. ⌜ r ≡ prefix01 b ⌝ }
 {
     match b {
         0x00 => Found::Cut,
@@ -161,7 +174,32 @@ fn prefix(b: u8) -> Found
     }
 }
 
-// Bytes that are fewer than their words: none, one, 01 and another, or 01 and two more.
+// 7C or 7D and a byte, which is e0.
+fn prefix_er(b: u8) -> Found
+    ensures { λ r. ⌜ r ≡ prefixEr b ⌝ }
+{
+    if b % 16 == 0 {
+        if b < 128 { Found::Cut } else { Found::Unlisted }
+    } else {
+        Found::Unlisted
+    }
+}
+
+// A code of two words, of which there is the first.
+fn prefix(a: u8, b: u8) -> Found
+    ensures { λ r. ⌜ r ≡ prefixOf a b ⌝ }
+{
+    match a {
+        0x01 => prefix_01(b),
+        0x7C => prefix_er(b),
+        0x7D => prefix_er(b),
+        0x7E => Found::Cut,
+        0x7F => Found::Cut,
+        _ => Found::Unlisted,
+    }
+}
+
+// Bytes that are fewer than their words: none, one, or two or three of a code of two words.
 fn short(p: Plan, s: &[u8]) -> Found
     ensures { λ r. ⌜ r ≡ shortOf p (now (s .entry)) ⌝ }
 {
@@ -172,7 +210,7 @@ fn short(p: Plan, s: &[u8]) -> Found
         return alone(s[0], p);
     }
     if s.len() == 2 {
-        return prefix(s[1]);
+        return prefix(s[0], s[1]);
     }
     begun(p)
 }
@@ -188,16 +226,17 @@ fn byte_at(s: &[u8], i: usize) -> u8
 fn lead(a: u8) -> u8
     ensures { λ r. ⌜ r ≡ leadOf a ⌝ }
 {
-    if a == 1 { 4 } else { 2 }
+    if two_words(a) { 4 } else { 2 }
 }
 
 fn planned(s: &[u8]) -> Plan
     ensures { λ r. ⌜ r ≡ plannedOf (now (s .entry)) ⌝ }
 {
-    if byte_at(s, 0) == 1 {
-        crate::words::second_word(byte_at(s, 1), byte_at(s, 2), byte_at(s, 3))
+    let a = byte_at(s, 0);
+    if two_words(a) {
+        crate::words::second_word(a, byte_at(s, 1), byte_at(s, 2), byte_at(s, 3))
     } else {
-        crate::words::first_word(byte_at(s, 0), byte_at(s, 1))
+        crate::words::first_word(a, byte_at(s, 1))
     }
 }
 

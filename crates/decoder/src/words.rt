@@ -1,6 +1,6 @@
 // What a word of a code says. The tables are document 01's, by digits.
 ghost use mathlib.Core.Path.{_≡_};
-ghost use Rattle.decoder.specs.MirrorWords.{incDecOf, shiftOf, unaryOf, row0, row1, row5, row6, row7, planOf, after00, afterC0, afterD0, afterF0, afterOf};
+ghost use Rattle.decoder.specs.MirrorWords.{incDecOf, shiftOf, unaryOf, row0, row1, row5, readsOf, writesOf, readsPart, writesPart, row6, row7, planOf, after00, afterC0, afterD0, afterF0, after01, readsMemory, writesMemory, afterOf};
 use crate::plan;
 use crate::plan::Mode;
 use crate::plan::Plan;
@@ -9,6 +9,7 @@ use arith::Width;
 use codes::By;
 use codes::Change;
 use codes::Dir;
+use codes::Give;
 use codes::Instruction;
 use codes::Op;
 use codes::Place;
@@ -16,6 +17,8 @@ use codes::Reach;
 use codes::Sign;
 use codes::Single;
 use codes::Source;
+use codes::Spot;
+use codes::Take;
 use codes::Target;
 use codes::Turn;
 use codes::Way;
@@ -146,14 +149,63 @@ fn row_5(lo: u8, b: u8) -> Plan
     }
 }
 
+// The word of a bit instruction that reads: its bit is in `spot`
+fn reads(c: u8, d: u8, spot: Spot) -> Plan
+    ensures { λ r. ⌜ r ≡ readsOf c d spot ⌝ }
+{
+    match c {
+        0x63 => plan::take_by_part(Take::Btst, d, spot),
+        0x73 => plan::take_numbered(Take::Btst, d, spot),
+        0x74 => plan::take_either(Take::Bor, Take::Bior, d, spot),
+        0x75 => plan::take_either(Take::Bxor, Take::Bixor, d, spot),
+        0x76 => plan::take_either(Take::Band, Take::Biand, d, spot),
+        0x77 => plan::take_either(Take::Bld, Take::Bild, d, spot),
+        _ => Plan::Nothing,
+    }
+}
+
+// and of one that writes
+fn writes(c: u8, d: u8, spot: Spot) -> Plan
+    ensures { λ r. ⌜ r ≡ writesOf c d spot ⌝ }
+{
+    match c {
+        0x60 => plan::give_by_part(Give::Bset, d, spot),
+        0x61 => plan::give_by_part(Give::Bnot, d, spot),
+        0x62 => plan::give_by_part(Give::Bclr, d, spot),
+        0x67 => plan::give_either(Give::Bst, Give::Bist, d, spot),
+        0x70 => plan::give_numbered(Give::Bset, d, spot),
+        0x71 => plan::give_numbered(Give::Bnot, d, spot),
+        0x72 => plan::give_numbered(Give::Bclr, d, spot),
+        _ => Plan::Nothing,
+    }
+}
+
+// in a byte register: the lower digit
+fn reads_part(a: u8, b: u8) -> Plan
+    ensures { λ r. ⌜ r ≡ readsPart a b ⌝ }
+{
+    reads(a, b, Spot::InPart(b % 16))
+}
+
+fn writes_part(a: u8, b: u8) -> Plan
+    ensures { λ r. ⌜ r ≡ writesPart a b ⌝ }
+{
+    writes(a, b, Spot::InPart(b % 16))
+}
+
 // First digit 6
 fn row_6(lo: u8, b: u8) -> Plan
     ensures { λ r. ⌜ r ≡ row6 lo b ⌝ }
 {
     match lo {
+        0x0 => writes_part(0x60, b),
+        0x1 => writes_part(0x61, b),
+        0x2 => writes_part(0x62, b),
+        0x3 => reads_part(0x63, b),
         0x4 => plan::reg_reg(Op::Or, Width::Word, b),
         0x5 => plan::reg_reg(Op::Xor, Width::Word, b),
         0x6 => plan::reg_reg(Op::And, Width::Word, b),
+        0x7 => writes_part(0x67, b),
         0x8 => plan::memory(Width::Byte, Mode::Plain, b),
         0x9 => plan::memory(Width::Word, Mode::Plain, b),
         0xA => plan::memory(Width::Byte, Mode::Absolute, b),
@@ -171,13 +223,21 @@ fn row_7(lo: u8, b: u8) -> Plan
     ensures { λ r. ⌜ r ≡ row7 lo b ⌝ }
 {
     match lo {
+        0x0 => writes_part(0x70, b),
+        0x1 => writes_part(0x71, b),
+        0x2 => writes_part(0x72, b),
+        0x3 => reads_part(0x73, b),
+        0x4 => reads_part(0x74, b),
+        0x5 => reads_part(0x75, b),
+        0x6 => reads_part(0x76, b),
+        0x7 => reads_part(0x77, b),
         0x9 => plan::imm_16(b),
         0xA => plan::imm_32(b),
         _ => Plan::Nothing,
     }
 }
 
-// The first word of a code that has no prefix
+// The first word of a code that has no second
 pub fn first_word(a: u8, b: u8) -> Plan
     ensures { λ r. ⌜ r ≡ planOf a b ⌝ }
 {
@@ -247,15 +307,42 @@ fn after_f0(c: u8, d: u8) -> Plan
     }
 }
 
-// The second word of a code that begins with 01 and b
-pub fn second_word(b: u8, c: u8, d: u8) -> Plan
-    ensures { λ r. ⌜ r ≡ afterOf b c d ⌝ }
+// The word after 01 and b
+fn after_01(b: u8, c: u8, d: u8) -> Plan
+    ensures { λ r. ⌜ r ≡ after01 b c d ⌝ }
 {
     match b {
         0x00 => after_00(c, d),
         0xC0 => after_c0(c, d),
         0xD0 => after_d0(c, d),
         0xF0 => after_f0(c, d),
+        _ => Plan::Nothing,
+    }
+}
+
+// The second word of a bit instruction in memory: its last digit is 0
+fn reads_memory(c: u8, d: u8, spot: Spot) -> Plan
+    ensures { λ r. ⌜ r ≡ readsMemory c d spot ⌝ }
+{
+    plan::exactly(d % 16, 0, reads(c, d, spot))
+}
+
+fn writes_memory(c: u8, d: u8, spot: Spot) -> Plan
+    ensures { λ r. ⌜ r ≡ writesMemory c d spot ⌝ }
+{
+    plan::exactly(d % 16, 0, writes(c, d, spot))
+}
+
+// The second word of a code that begins with a and b
+pub fn second_word(a: u8, b: u8, c: u8, d: u8) -> Plan
+    ensures { λ r. ⌜ r ≡ afterOf a b c d ⌝ }
+{
+    match a {
+        0x01 => after_01(b, c, d),
+        0x7C => plan::e_zero(b, reads_memory(c, d, Spot::AtEr(b / 16))),
+        0x7D => plan::e_zero(b, writes_memory(c, d, Spot::AtEr(b / 16))),
+        0x7E => reads_memory(c, d, Spot::AtAbs(b)),
+        0x7F => writes_memory(c, d, Spot::AtAbs(b)),
         _ => Plan::Nothing,
     }
 }

@@ -75,7 +75,7 @@ pub fn pop(
 }
 
 // What a write leaves of the condition byte: f where it was not made, else g.
-fn kept(p: Put, f: Condition, g: Condition) -> Deed
+pub fn kept(p: Put, f: Condition, g: Condition) -> Deed
     ensures { λ e. ⌜ e ≡ keptOf p f g ⌝ }
 {
     match p {

@@ -35,6 +35,7 @@ use Rattle.multiply.specs.Multiply.{dividedOf, divideOf}
 use Rattle.products.specs.declared.Half.{Half}
 use Rattle.products.specs.declared.Division.{Division}
 use Rattle.products.specs.declared.Division.the-variants.{Divided, Fails}
+use Rattle.bitwork.specs.Bitwork.{tookFrom, takesAt, gaveTo, givesAt, takesOf, givesOf}
 use Rattle.moves.specs.Moves.{Stepped, stepped, stepOver, loadedOf, loadOf, storedOf, storeOf, pushOf, poppedOf}
 use Rattle.flow.specs.Targets.{nextOf}
 use Rattle.decoder.specs.MirrorDecode.{decodeOf}
@@ -42,17 +43,22 @@ use Rattle.codes.specs.States.{statesOf, goesOf}
 use Rattle.codes.proofs.Laws.{states-range}
 use Rattle.step.specs.Follow.{aimOf, followOf}
 use Rattle.step.specs.Step.{transferOf, effectOf, After, after, answered, stays, finishOf, carryOf, obeyOf, actOf, fetchOf, goodPc, stepOf}
-use Rattle.step.proofs.Range.{whole-stc, whole-ldc, whole-ccr, whole-alu, whole-inc-dec, whole-carried, whole-adds-subs, whole-added, whole-shift, whole-unary, whole-put, whole-multiply, whole-over}
+use Rattle.step.proofs.Range.{whole-stc, whole-ldc, whole-ccr, whole-alu, whole-inc-dec, whole-carried, whole-adds-subs, whole-added, whole-shift, whole-unary, whole-put, whole-multiply, whole-over, whole-took}
 use Rattle.arith.specs.declared.Width.{Width}
 use Rattle.arith.specs.declared.Width.the-variants.{Byte, Word, Long}
 use Rattle.codes.specs.declared.Dir.{Dir}
 use Rattle.codes.specs.declared.Dir.the-variants.{Load, Store}
 use Rattle.codes.specs.declared.Place.{Place}
 use Rattle.codes.specs.declared.Place.the-variants.{At, Step, Disp, Abs8, Abs16, Abs24}
+use Rattle.codes.specs.declared.Take.{Take}
+use Rattle.codes.specs.declared.Give.{Give}
+use Rattle.codes.specs.declared.Index.{Index}
+use Rattle.codes.specs.declared.Spot.{Spot}
+use Rattle.codes.specs.declared.Spot.the-variants.{InPart, AtEr, AtAbs}
 use Rattle.codes.specs.declared.Target.{Target}
 use Rattle.codes.specs.declared.Target.the-variants.{ByReg, Direct, Vector}
 use Rattle.codes.specs.declared.Instruction.{Instruction}
-use Rattle.codes.specs.declared.Instruction.the-variants.{Nop, Stc, LdcReg, Ccr, Alu, IncDec, AddsSubs, Decimal, Shift, Unary, Multiply, Divide, Move, Bcc, Jmp, Bsr, Jsr, Rts}
+use Rattle.codes.specs.declared.Instruction.the-variants.{Nop, Stc, LdcReg, Ccr, Alu, IncDec, AddsSubs, Decimal, Shift, Unary, Multiply, Divide, Takes, Gives, Move, Bcc, Jmp, Bsr, Jsr, Rts}
 use Rattle.codes.specs.declared.Goes.{Goes}
 use Rattle.codes.specs.declared.Goes.the-variants.{Onward, Branches, Jumps, CallsNear, Calls, Returns}
 use Rattle.codes.specs.declared.Decoded.{Decoded}
@@ -88,6 +94,28 @@ module _ (r : Registers) (b : Board) (rom ram : List ℕ) where
   divide-view (Divided x) h d = done _ ram refl (whole-put h d r x)
   divide-view Fails h d = not-done (DivideFails (r .pc)) (inr (inr (inr refl)))
 
+  took-view : (take : Take) (index : Index) (g : Got) → ((f : Refusal) → g ≡ NotRead f → numberOf f ≡ 5) → Done-or-not r ram (stepped (tookFrom g take index r) ram)
+  unfolding tookFrom
+  took-view take index (Value x) five = done _ ram refl (whole-took take index x r)
+  took-view take index (NotRead f) five = not-done f (inl (five f refl))
+
+  takes-view : (take : Take) (index : Index) (spot : Spot) → Done-or-not r ram (stepped (takesOf take index spot r b rom ram) ram)
+  unfolding takesOf takesAt
+  takes-view take index (InPart d) = done _ ram refl (whole-took take index _ r)
+  takes-view take index (AtEr e) = took-view take index _ (λ f h. read-number Byte b rom ram _ f h)
+  takes-view take index (AtAbs a) = took-view take index _ (λ f h. read-number Byte b rom ram _ f h)
+
+  gave-view : (give : Give) (index : Index) (a : ℕ) (g : Got) → ((f : Refusal) → g ≡ NotRead f → numberOf f ≡ 5) → Done-or-not r ram (gaveTo g give index a r b ram)
+  unfolding gaveTo
+  gave-view give index a (Value x) five = store-view Byte a _ r (λ h. h) _ refl
+  gave-view give index a (NotRead f) five = not-done f (inl (five f refl))
+
+  gives-view : (give : Give) (index : Index) (spot : Spot) → Done-or-not r ram (givesOf give index spot r b rom ram)
+  unfolding givesOf givesAt
+  gives-view give index (InPart d) = done _ ram refl (whole-part Byte r d _)
+  gives-view give index (AtEr e) = gave-view give index _ _ (λ f h. read-number Byte b rom ram _ f h)
+  gives-view give index (AtAbs a) = gave-view give index _ _ (λ f h. read-number Byte b rom ram _ f h)
+
   transfer-view : (next : ℕ) (dir : Dir) (w : Width) (p : Place) (d : ℕ) → Done-or-not r ram (transferOf next r b rom ram dir w p d)
   unfolding transferOf loadOf storeOf
   transfer-view next Load w p d = load-view w d (stepOver Up w p r) (whole-over Up w p r) _ (λ f e. read-number w b rom ram _ f e)
@@ -111,6 +139,8 @@ module _ (r : Registers) (b : Board) (rom ram : List ℕ) where
   effect-view next (Unary single w d) = done _ ram refl (whole-unary single w d r)
   effect-view next (Multiply sign h s d) = done _ ram refl (whole-multiply sign h s d r)
   effect-view next (Divide sign h s d) = divide-view _ h d
+  effect-view next (Takes take index spot) = takes-view take index spot
+  effect-view next (Gives give index spot) = gives-view give index spot
   effect-view next (Move dir w p d) = transfer-view next dir w p d
   effect-view next (Bcc c reach) = done r ram refl (λ h. h)
   effect-view next (Jmp target) = done r ram refl (λ h. h)

@@ -9,6 +9,7 @@ use Rattle.registers.proofs.Kept.{Whole, whole-part, whole-condition}
 use Rattle.operate.specs.Operate.{stcOf, ldcOf, ccrOf, operatedOf, aluOf, incDecOf, carriedOf, addsSubsOf, addedOf, shiftOf, unaryOf}
 use Rattle.multiply.specs.Multiply.{putOf, multiplyOf}
 use Rattle.moves.specs.Moves.{stepOver}
+use Rattle.bitwork.specs.Bitwork.{tookOf}
 use Rattle.arith.specs.declared.Moved.{Moved}
 use Rattle.products.specs.declared.Half.{Half}
 use Rattle.products.specs.Products.{productWidth}
@@ -30,6 +31,8 @@ use Rattle.codes.specs.declared.Single.{Single}
 use Rattle.codes.specs.declared.Single.the-variants.{Not, Neg, Extu, Exts}
 use Rattle.codes.specs.declared.Change.{Change}
 use Rattle.codes.specs.declared.Change.the-variants.{Orc, Xorc, Andc, Ldc}
+use Rattle.codes.specs.declared.Take.{Take}
+use Rattle.codes.specs.declared.Index.{Index}
 use Rattle.codes.specs.declared.Place.{Place}
 use Rattle.codes.specs.declared.Place.the-variants.{At, Step, Disp, Abs8, Abs16, Abs24}
 
@@ -111,3 +114,7 @@ whole-over way w (Disp e d) r h = h
 whole-over way w (Abs8 a) r h = h
 whole-over way w (Abs16 a) r h = h
 whole-over way w (Abs24 a) r h = h
+
+pub whole-took : (take : Take) (index : Index) (x : ℕ) (r : Registers) → Whole r → Whole (tookOf take index x r)
+unfolding tookOf
+whole-took take index x r h = whole-condition r _ h

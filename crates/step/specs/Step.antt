@@ -18,6 +18,7 @@ use Rattle.memory.specs.declared.Got.the-variants.{Value, NotRead}
 use Rattle.operate.specs.Operate.{stcOf, ldcOf, ccrOf, aluOf, incDecOf, addsSubsOf, decimalOf, shiftOf, unaryOf}
 use Rattle.operate.specs.Results.{did}
 use Rattle.multiply.specs.Multiply.{multiplyOf, divideOf}
+use Rattle.bitwork.specs.Bitwork.{takesOf, givesOf}
 use Rattle.moves.specs.Moves.{Stepped, stepped, loadOf, storeOf, pushOf, poppedOf}
 use Rattle.flow.specs.Targets.{nextOf}
 use Rattle.decoder.specs.MirrorDecode.{decodeOf}
@@ -29,7 +30,7 @@ use Rattle.codes.specs.declared.Dir.the-variants.{Load, Store}
 use Rattle.codes.specs.declared.Place.{Place}
 use Rattle.codes.specs.declared.Place.the-variants.{At, Step, Disp, Abs8, Abs16, Abs24}
 use Rattle.codes.specs.declared.Instruction.{Instruction}
-use Rattle.codes.specs.declared.Instruction.the-variants.{Nop, Stc, LdcReg, Ccr, Alu, IncDec, AddsSubs, Decimal, Shift, Unary, Multiply, Divide, Move, Bcc, Jmp, Bsr, Jsr, Rts}
+use Rattle.codes.specs.declared.Instruction.the-variants.{Nop, Stc, LdcReg, Ccr, Alu, IncDec, AddsSubs, Decimal, Shift, Unary, Multiply, Divide, Takes, Gives, Move, Bcc, Jmp, Bsr, Jsr, Rts}
 use Rattle.codes.specs.declared.Decoded.{Decoded}
 use Rattle.codes.specs.declared.Decoded.the-variants.{Code, NoCode}
 
@@ -52,6 +53,8 @@ module _ (next : ℕ) (r : Registers) (b : Board) (rom ram : List ℕ) where
   effectOf (Unary single w d) = stepped (did (unaryOf single w d r)) ram
   effectOf (Multiply sign h s d) = stepped (did (multiplyOf sign h s d r)) ram
   effectOf (Divide sign h s d) = stepped (divideOf sign h s d r) ram
+  effectOf (Takes take index spot) = stepped (takesOf take index spot r b rom ram) ram
+  effectOf (Gives give index spot) = givesOf give index spot r b rom ram
   effectOf (Move dir w p d) = transferOf dir w p d
   effectOf (Bcc c reach) = stepped (did r) ram
   effectOf (Jmp target) = stepped (did r) ram

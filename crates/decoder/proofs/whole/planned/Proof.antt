@@ -1,28 +1,30 @@
-use mathlib.Core.Path.{sym, _∙_}
+use mathlib.Core.Path.{sym, ap, _∙_}
 use borrow.Author.Needs.{needs}
-use borrow.Author.Tests.{eq-eqb, ne-eqb}
+use Rattle.decoder.specs.MirrorDecode.{twoWords}
 use Rattle.decoder.proofs.whole.planned.Statement.{statement}
 use Rattle.decoder.proofs.whole.planned.Tie as tie
 
 pub planned-spec : {M : Type 1} → statement M
 planned-spec =
     tie.close
-    (tie.spec (λ c κs. search needs) (λ c κs. search needs) (λ c κs. search needs) (λ c κs. search needs) (λ c κs. search needs)
-    (λ c κs. search needs) (λ c κs. search needs) (λ c κs. search needs)
+    (tie.spec (λ c κs. search needs) (λ c κs. search needs) (λ c κs. search needs) (λ c κs. search needs) (λ c κs. search needs) (λ c κs. search needs) (λ c κs. search needs) (λ c κs. search needs)
     (λ c.
-    let one = c .before .before .before .before in
+    let b = c .before .before .before .before in
+    let a = b .before .before in
     simp (
-      eq-eqb _ _ (sym (one .before .byte-at .ensures) ∙ one .if1 .taken),
+      ap twoWords (sym (a .byte-at .ensures)) ∙ sym (b .before .two-words .ensures) ∙ b .if1 .taken,
       c .second-word .ensures,
       c .before .byte-at4 .ensures,
       c .before .before .byte-at3 .ensures,
       c .before .before .before .byte-at2 .ensures,
+      a .byte-at .ensures,
     ))
     (λ c.
-    let other = c .before .before .before in
+    let b = c .before .before in
+    let a = b .before .before in
     simp (
-      ne-eqb _ _ (λ e. other .if1 .left (other .before .byte-at .ensures ∙ e)),
+      ap twoWords (sym (a .byte-at .ensures)) ∙ sym (b .before .two-words .ensures) ∙ b .if1 .left,
       c .first-word .ensures,
-      c .before .byte-at6 .ensures,
-      c .before .before .byte-at5 .ensures,
+      c .before .byte-at5 .ensures,
+      a .byte-at .ensures,
     )))

@@ -1,0 +1,12 @@
+use Rattle.bits.specs.Effects.{givenOf}
+use borrow.Author.Needs.{needs}
+use Rattle.bits.proofs.given.Statement.{statement}
+use Rattle.bits.proofs.given.Tie as tie
+
+pub given-spec : {M : Type 1} → statement M
+unfolding givenOf
+given-spec =
+    tie.close
+    (tie.spec (λ c. search needs) (λ c. search needs) (λ c. search needs) (λ c. search needs) (λ c. search needs)
+    (λ c. rw (c .enum-told .given .1)) (λ c. rw (c .enum-told2 .given .1)) (λ c. rw (c .enum-told3 .given .1)) (λ c. rw (c .enum-told4 .given .1))
+    (λ c. rw (c .enum-told5 .given .1)))

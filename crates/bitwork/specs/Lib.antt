@@ -1,0 +1,2 @@
+pub mod Bitwork
+pub mod MirrorBitwork
