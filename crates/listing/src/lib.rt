@@ -81,7 +81,7 @@ pub fn flow_at(rom: &[u8], p: u32) -> Flow
     match decoder::whole::begins(&rom[at..]) {
         Found::Is(i, n) => found(p, i, n),
         Found::Cut => Flow::Stop(Refusal::CutShort(p)),
-        Found::Unlisted => Flow::Stop(Refusal::UnknownCode(p)),
+        Found::Unlisted => Flow::Stop(left::unheld(&rom[at..], p)),
     }
 }
 

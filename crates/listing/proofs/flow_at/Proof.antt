@@ -26,7 +26,7 @@ flow-at-spec =
     simp (lt-leb _ _ (b .before .before .if1 .left))
     (ap (λ (d : Decoded). foundFlow (a .p) d) (part-found (now (a .rom)) (a .p) (b .begins .ensures) (c .enum-told .given .1))))
     (λ c.
-    let b = c .before .before in
+    let b = c .before .before .before .before .before in
     let a = b .before .before .before .before .args in
     simp (lt-leb _ _ (b .before .before .if1 .left))
     (ap (λ (d : Decoded). foundFlow (a .p) d) (part-found (now (a .rom)) (a .p) (b .begins .ensures) (c .enum-told2 .given .1)))))
