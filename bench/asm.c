@@ -133,18 +133,18 @@ static long register_digit(const char **p, int width)
     return n;
 }
 
-/* What a line gives for a form: registers and a value. */
-struct operands { long rs, rd, value; };
+/* What a line gives for a form: registers, a bit's number and a value. */
+struct operands { long rs, rd, rn, bit, value; };
 
 /* How wide Rs or Rd is. The destination of MULX and DIVX is twice as wide as the mark says. */
 static int width_of(const struct form *f, char letter)
 {
-    if (f->kind == H8_STC || f->kind == H8_LDC || f->kind == H8_DECIMAL)
+    if (f->kind == H8_STC || f->kind == H8_LDC || f->kind == H8_DECIMAL || f->kind == H8_TAKE || f->kind == H8_GIVE)
         return H8_BYTE;
     return (f->kind == H8_MULTIPLY || f->kind == H8_DIVIDE) && letter == 'd' ? f->width + 1 : f->width;
 }
 
-/* A register in the form's text: ERs, ERd, ERn, Rs, Rd. */
+/* A register in the form's text: ERs, ERd, ERn, Rs, Rd, Rn. */
 static int match_register(const struct form *f, const char **t, const char **p, struct operands *o)
 {
     int er = (*t)[0] == 'E';
@@ -153,12 +153,12 @@ static int match_register(const struct form *f, const char **t, const char **p, 
     long n = register_digit(p, er ? H8_LONG : width_of(f, letter));
     if (n < 0)
         return 0;
-    *(letter == 's' ? &o->rs : &o->rd) = n;
+    *(letter == 's' ? &o->rs : letter == 'n' && !er ? &o->rn : &o->rd) = n;
     *t += er ? 3 : 2;
     return 1;
 }
 
-/* xx:8, d:16, aa:24: an expression; the size is written too, except after '#'. */
+/* xx:8, d:16, aa:24: an expression; the size is written too, except after '#'. xx:3 is the number of a bit. */
 static int match_number(struct source *s, const char **t, const char **p, struct operands *o)
 {
     int immediate = **t == 'x';
@@ -166,7 +166,7 @@ static int match_number(struct source *s, const char **t, const char **p, struct
     *t = strchr(*t, ':') + 1;
     for (int n = 1; isdigit((unsigned char)**t); n++)
         size[n] = *(*t)++;
-    return expression(s, p, &o->value) && (immediate || take(p, size));
+    return expression(s, p, strcmp(size, ":3") ? &o->value : &o->bit) && (immediate || take(p, size));
 }
 
 static int match_form(struct source *s, const struct form *f, const char *line, struct operands *o)
@@ -181,7 +181,7 @@ static int match_form(struct source *s, const struct form *f, const char *line, 
             continue;
         }
         int name = t != f->name && !in_name(t[-1]);
-        if (name && (!strncmp(t, "ER", 2) || !strncmp(t, "Rs", 2) || !strncmp(t, "Rd", 2))) {
+        if (name && (!strncmp(t, "ER", 2) || !strncmp(t, "Rs", 2) || !strncmp(t, "Rd", 2) || !strncmp(t, "Rn", 2))) {
             if (!match_register(f, &t, &p, o))
                 return 0;
         } else if (name && (!strncmp(t, "xx:", 3) || !strncmp(t, "aa:", 3) || !strncmp(t, "d:", 2))) {
@@ -210,7 +210,7 @@ static uint32_t coded(struct source *s, int form, long value, const char *line)
     }
     if (f->kind == H8_MOVE && f->form == H8_DISP)
         high = -low - 1;
-    if (f->kind == H8_MOVE && f->form == H8_ABS8)
+    if ((f->kind == H8_MOVE && f->form == H8_ABS8) || ((f->kind == H8_TAKE || f->kind == H8_GIVE) && f->form == H8_SPOT_ABS8))
         value -= 0xFFFF00;
     if (f->kind == H8_MOVE && f->form == H8_ABS16) {
         value -= value >= 0xFF8000 ? 0x1000000 : 0;
@@ -234,15 +234,26 @@ static void emit(struct source *s, const uint8_t *bytes, int n, const char *line
         s->end = s->at;
 }
 
+/* The operand of a field of the pattern. */
+static long operand_of(const struct operands *o, const char *field)
+{
+    if (!strcmp(field, "bn"))
+        return o->bit;
+    if (!strcmp(field, "rn"))
+        return o->rn;
+    return field[0] == 0 ? 0 : field[1] == 's' ? o->rs : o->rd;
+}
+
 static void instruction(struct source *s, const char *line)
 {
     for (int i = 0; i < FORMS; i++) {
-        struct operands o = {0, 0, 0};
+        struct operands o = {0, 0, 0, 0, 0};
         uint8_t code[8];
         if (!match_form(s, &forms[i], line, &o))
             continue;
-        long other = forms[i].other[0] ? (forms[i].other[1] == 's' ? o.rs : o.rd) : 0;
-        long reg = forms[i].reg[0] ? (forms[i].reg[1] == 's' ? o.rs : o.rd) : 0;
+        if (o.bit < 0 || o.bit > 7)
+            complain(s, "no bit of a byte", line);
+        long other = operand_of(&o, forms[i].other), reg = operand_of(&o, forms[i].reg);
         int n = build(i, (uint32_t)other, coded(s, i, o.value, line), (uint32_t)reg, code);
         emit(s, code, n, line);
         return;

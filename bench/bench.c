@@ -255,8 +255,8 @@ static void runs(void) { test_runs(samples); }
 
 static const struct { const char *part; void (*run)(void); } parts[] = {
     {"reference", test_reference}, {"marked", test_marked}, {"codes", test_codes}, {"encode", test_encode},
-    {"steps", test_steps}, {"bytes", test_bytes}, {"limits", test_limits}, {"runs", runs}, {"figures", test_figures},
-    {"bad", test_bad_input},
+    {"steps", test_steps}, {"bytes", test_bytes}, {"bits", test_bits}, {"limits", test_limits}, {"runs", runs},
+    {"figures", test_figures}, {"bad", test_bad_input},
 };
 
 static int asked_for(const char *part, int argc, char **argv)

@@ -50,6 +50,7 @@ void test_codes(void);
 void test_encode(void);
 void test_steps(void);
 void test_bytes(void);
+void test_bits(void);
 void test_limits(void);
 void test_runs(const char *samples);
 void test_figures(void);

@@ -1,8 +1,9 @@
 #include "decoder.h"
 #include <string.h>
 
-/* One line for each of the 185 forms. In a pattern a hex digit stands for itself; [rs] [rd] is a digit 0 to F; [es] [ed] [en]
-   a digit 0 to 7; [8+es] [8+ed] that digit plus 8; imm, d and aa so many bits, most significant digit first. */
+/* One line for each of the 239 forms. In a pattern a hex digit stands for itself; [rs] [rd] [rn] is a digit 0 to F; [es] [ed]
+   [en] and the bit number [bn] a digit 0 to 7; [8+es] [8+ed] [8+bn] that digit plus 8; imm, d and aa so many bits, most
+   significant digit first. */
 const struct form forms[FORMS] = {
     {"NOP",                    "00 00",                        "I1",       2, H8_NOP,     0,         0,       0,             "",   ""},
     {"STC.B CCR,Rd",           "02 0[rd]",                     "I1",       2, H8_STC,     0,         0,       0,             "",   "rd"},
@@ -148,6 +149,60 @@ const struct form forms[FORMS] = {
     {"MOV.L ERs,@-ERd",        "01 00 6D [8+ed][es]",          "I2 M2 N2", 10, H8_MOVE,    H8_STORE,  H8_LONG, H8_STEP,       "ed", "es"},
     {"MOV.L ERs,@aa:16",       "01 00 6B 8[es] [aa16]",        "I3 M2",   10, H8_MOVE,    H8_STORE,  H8_LONG, H8_ABS16,      "",   "es"},
     {"MOV.L ERs,@aa:24",       "01 00 6B A[es] 00 [aa24]",     "I4 M2",   12, H8_MOVE,    H8_STORE,  H8_LONG, H8_ABS24,      "",   "es"},
+    {"BAND #xx:3,Rd",          "76 [bn][rd]",                  "I1",       2, H8_TAKE,    H8_BAND,   H8_BIT_NUMBER, H8_SPOT_REG,  "bn", "rd"},
+    {"BAND #xx:3,@ERd",        "7C [ed]0 76 [bn]0",            "I2 L1",    6, H8_TAKE,    H8_BAND,   H8_BIT_NUMBER, H8_SPOT_AT,   "bn", "ed"},
+    {"BAND #xx:3,@aa:8",       "7E [aa8] 76 [bn]0",            "I2 L1",    6, H8_TAKE,    H8_BAND,   H8_BIT_NUMBER, H8_SPOT_ABS8, "bn", ""},
+    {"BCLR #xx:3,Rd",          "72 [bn][rd]",                  "I1",       2, H8_GIVE,    H8_BCLR,   H8_BIT_NUMBER, H8_SPOT_REG,  "bn", "rd"},
+    {"BCLR #xx:3,@ERd",        "7D [ed]0 72 [bn]0",            "I2 L2",    8, H8_GIVE,    H8_BCLR,   H8_BIT_NUMBER, H8_SPOT_AT,   "bn", "ed"},
+    {"BCLR #xx:3,@aa:8",       "7F [aa8] 72 [bn]0",            "I2 L2",    8, H8_GIVE,    H8_BCLR,   H8_BIT_NUMBER, H8_SPOT_ABS8, "bn", ""},
+    {"BCLR Rn,Rd",             "62 [rn][rd]",                  "I1",       2, H8_GIVE,    H8_BCLR,   H8_BIT_BY_REG, H8_SPOT_REG,  "rn", "rd"},
+    {"BCLR Rn,@ERd",           "7D [ed]0 62 [rn]0",            "I2 L2",    8, H8_GIVE,    H8_BCLR,   H8_BIT_BY_REG, H8_SPOT_AT,   "rn", "ed"},
+    {"BCLR Rn,@aa:8",          "7F [aa8] 62 [rn]0",            "I2 L2",    8, H8_GIVE,    H8_BCLR,   H8_BIT_BY_REG, H8_SPOT_ABS8, "rn", ""},
+    {"BIAND #xx:3,Rd",         "76 [8+bn][rd]",                "I1",       2, H8_TAKE,    H8_BIAND,  H8_BIT_NUMBER, H8_SPOT_REG,  "bn", "rd"},
+    {"BIAND #xx:3,@ERd",       "7C [ed]0 76 [8+bn]0",          "I2 L1",    6, H8_TAKE,    H8_BIAND,  H8_BIT_NUMBER, H8_SPOT_AT,   "bn", "ed"},
+    {"BIAND #xx:3,@aa:8",      "7E [aa8] 76 [8+bn]0",          "I2 L1",    6, H8_TAKE,    H8_BIAND,  H8_BIT_NUMBER, H8_SPOT_ABS8, "bn", ""},
+    {"BILD #xx:3,Rd",          "77 [8+bn][rd]",                "I1",       2, H8_TAKE,    H8_BILD,   H8_BIT_NUMBER, H8_SPOT_REG,  "bn", "rd"},
+    {"BILD #xx:3,@ERd",        "7C [ed]0 77 [8+bn]0",          "I2 L1",    6, H8_TAKE,    H8_BILD,   H8_BIT_NUMBER, H8_SPOT_AT,   "bn", "ed"},
+    {"BILD #xx:3,@aa:8",       "7E [aa8] 77 [8+bn]0",          "I2 L1",    6, H8_TAKE,    H8_BILD,   H8_BIT_NUMBER, H8_SPOT_ABS8, "bn", ""},
+    {"BIOR #xx:3,Rd",          "74 [8+bn][rd]",                "I1",       2, H8_TAKE,    H8_BIOR,   H8_BIT_NUMBER, H8_SPOT_REG,  "bn", "rd"},
+    {"BIOR #xx:3,@ERd",        "7C [ed]0 74 [8+bn]0",          "I2 L1",    6, H8_TAKE,    H8_BIOR,   H8_BIT_NUMBER, H8_SPOT_AT,   "bn", "ed"},
+    {"BIOR #xx:3,@aa:8",       "7E [aa8] 74 [8+bn]0",          "I2 L1",    6, H8_TAKE,    H8_BIOR,   H8_BIT_NUMBER, H8_SPOT_ABS8, "bn", ""},
+    {"BIST #xx:3,Rd",          "67 [8+bn][rd]",                "I1",       2, H8_GIVE,    H8_BIST,   H8_BIT_NUMBER, H8_SPOT_REG,  "bn", "rd"},
+    {"BIST #xx:3,@ERd",        "7D [ed]0 67 [8+bn]0",          "I2 L2",    8, H8_GIVE,    H8_BIST,   H8_BIT_NUMBER, H8_SPOT_AT,   "bn", "ed"},
+    {"BIST #xx:3,@aa:8",       "7F [aa8] 67 [8+bn]0",          "I2 L2",    8, H8_GIVE,    H8_BIST,   H8_BIT_NUMBER, H8_SPOT_ABS8, "bn", ""},
+    {"BIXOR #xx:3,Rd",         "75 [8+bn][rd]",                "I1",       2, H8_TAKE,    H8_BIXOR,  H8_BIT_NUMBER, H8_SPOT_REG,  "bn", "rd"},
+    {"BIXOR #xx:3,@ERd",       "7C [ed]0 75 [8+bn]0",          "I2 L1",    6, H8_TAKE,    H8_BIXOR,  H8_BIT_NUMBER, H8_SPOT_AT,   "bn", "ed"},
+    {"BIXOR #xx:3,@aa:8",      "7E [aa8] 75 [8+bn]0",          "I2 L1",    6, H8_TAKE,    H8_BIXOR,  H8_BIT_NUMBER, H8_SPOT_ABS8, "bn", ""},
+    {"BLD #xx:3,Rd",           "77 [bn][rd]",                  "I1",       2, H8_TAKE,    H8_BLD,    H8_BIT_NUMBER, H8_SPOT_REG,  "bn", "rd"},
+    {"BLD #xx:3,@ERd",         "7C [ed]0 77 [bn]0",            "I2 L1",    6, H8_TAKE,    H8_BLD,    H8_BIT_NUMBER, H8_SPOT_AT,   "bn", "ed"},
+    {"BLD #xx:3,@aa:8",        "7E [aa8] 77 [bn]0",            "I2 L1",    6, H8_TAKE,    H8_BLD,    H8_BIT_NUMBER, H8_SPOT_ABS8, "bn", ""},
+    {"BNOT #xx:3,Rd",          "71 [bn][rd]",                  "I1",       2, H8_GIVE,    H8_BNOT,   H8_BIT_NUMBER, H8_SPOT_REG,  "bn", "rd"},
+    {"BNOT #xx:3,@ERd",        "7D [ed]0 71 [bn]0",            "I2 L2",    8, H8_GIVE,    H8_BNOT,   H8_BIT_NUMBER, H8_SPOT_AT,   "bn", "ed"},
+    {"BNOT #xx:3,@aa:8",       "7F [aa8] 71 [bn]0",            "I2 L2",    8, H8_GIVE,    H8_BNOT,   H8_BIT_NUMBER, H8_SPOT_ABS8, "bn", ""},
+    {"BNOT Rn,Rd",             "61 [rn][rd]",                  "I1",       2, H8_GIVE,    H8_BNOT,   H8_BIT_BY_REG, H8_SPOT_REG,  "rn", "rd"},
+    {"BNOT Rn,@ERd",           "7D [ed]0 61 [rn]0",            "I2 L2",    8, H8_GIVE,    H8_BNOT,   H8_BIT_BY_REG, H8_SPOT_AT,   "rn", "ed"},
+    {"BNOT Rn,@aa:8",          "7F [aa8] 61 [rn]0",            "I2 L2",    8, H8_GIVE,    H8_BNOT,   H8_BIT_BY_REG, H8_SPOT_ABS8, "rn", ""},
+    {"BOR #xx:3,Rd",           "74 [bn][rd]",                  "I1",       2, H8_TAKE,    H8_BOR,    H8_BIT_NUMBER, H8_SPOT_REG,  "bn", "rd"},
+    {"BOR #xx:3,@ERd",         "7C [ed]0 74 [bn]0",            "I2 L1",    6, H8_TAKE,    H8_BOR,    H8_BIT_NUMBER, H8_SPOT_AT,   "bn", "ed"},
+    {"BOR #xx:3,@aa:8",        "7E [aa8] 74 [bn]0",            "I2 L1",    6, H8_TAKE,    H8_BOR,    H8_BIT_NUMBER, H8_SPOT_ABS8, "bn", ""},
+    {"BSET #xx:3,Rd",          "70 [bn][rd]",                  "I1",       2, H8_GIVE,    H8_BSET,   H8_BIT_NUMBER, H8_SPOT_REG,  "bn", "rd"},
+    {"BSET #xx:3,@ERd",        "7D [ed]0 70 [bn]0",            "I2 L2",    8, H8_GIVE,    H8_BSET,   H8_BIT_NUMBER, H8_SPOT_AT,   "bn", "ed"},
+    {"BSET #xx:3,@aa:8",       "7F [aa8] 70 [bn]0",            "I2 L2",    8, H8_GIVE,    H8_BSET,   H8_BIT_NUMBER, H8_SPOT_ABS8, "bn", ""},
+    {"BSET Rn,Rd",             "60 [rn][rd]",                  "I1",       2, H8_GIVE,    H8_BSET,   H8_BIT_BY_REG, H8_SPOT_REG,  "rn", "rd"},
+    {"BSET Rn,@ERd",           "7D [ed]0 60 [rn]0",            "I2 L2",    8, H8_GIVE,    H8_BSET,   H8_BIT_BY_REG, H8_SPOT_AT,   "rn", "ed"},
+    {"BSET Rn,@aa:8",          "7F [aa8] 60 [rn]0",            "I2 L2",    8, H8_GIVE,    H8_BSET,   H8_BIT_BY_REG, H8_SPOT_ABS8, "rn", ""},
+    {"BST #xx:3,Rd",           "67 [bn][rd]",                  "I1",       2, H8_GIVE,    H8_BST,    H8_BIT_NUMBER, H8_SPOT_REG,  "bn", "rd"},
+    {"BST #xx:3,@ERd",         "7D [ed]0 67 [bn]0",            "I2 L2",    8, H8_GIVE,    H8_BST,    H8_BIT_NUMBER, H8_SPOT_AT,   "bn", "ed"},
+    {"BST #xx:3,@aa:8",        "7F [aa8] 67 [bn]0",            "I2 L2",    8, H8_GIVE,    H8_BST,    H8_BIT_NUMBER, H8_SPOT_ABS8, "bn", ""},
+    {"BTST #xx:3,Rd",          "73 [bn][rd]",                  "I1",       2, H8_TAKE,    H8_BTST,   H8_BIT_NUMBER, H8_SPOT_REG,  "bn", "rd"},
+    {"BTST #xx:3,@ERd",        "7C [ed]0 73 [bn]0",            "I2 L1",    6, H8_TAKE,    H8_BTST,   H8_BIT_NUMBER, H8_SPOT_AT,   "bn", "ed"},
+    {"BTST #xx:3,@aa:8",       "7E [aa8] 73 [bn]0",            "I2 L1",    6, H8_TAKE,    H8_BTST,   H8_BIT_NUMBER, H8_SPOT_ABS8, "bn", ""},
+    {"BTST Rn,Rd",             "63 [rn][rd]",                  "I1",       2, H8_TAKE,    H8_BTST,   H8_BIT_BY_REG, H8_SPOT_REG,  "rn", "rd"},
+    {"BTST Rn,@ERd",           "7C [ed]0 63 [rn]0",            "I2 L1",    6, H8_TAKE,    H8_BTST,   H8_BIT_BY_REG, H8_SPOT_AT,   "rn", "ed"},
+    {"BTST Rn,@aa:8",          "7E [aa8] 63 [rn]0",            "I2 L1",    6, H8_TAKE,    H8_BTST,   H8_BIT_BY_REG, H8_SPOT_ABS8, "rn", ""},
+    {"BXOR #xx:3,Rd",          "75 [bn][rd]",                  "I1",       2, H8_TAKE,    H8_BXOR,   H8_BIT_NUMBER, H8_SPOT_REG,  "bn", "rd"},
+    {"BXOR #xx:3,@ERd",        "7C [ed]0 75 [bn]0",            "I2 L1",    6, H8_TAKE,    H8_BXOR,   H8_BIT_NUMBER, H8_SPOT_AT,   "bn", "ed"},
+    {"BXOR #xx:3,@aa:8",       "7E [aa8] 75 [bn]0",            "I2 L1",    6, H8_TAKE,    H8_BXOR,   H8_BIT_NUMBER, H8_SPOT_ABS8, "bn", ""},
     {"BRA d:8",                "40 [d8]",                      "I2",       4, H8_BCC,     0,         0,       H8_NEAR,       "",   ""},
     {"BRA d:16",               "58 00 [d16]",                  "I2 N2",    6, H8_BCC,     0,         0,       H8_FAR,        "",   ""},
     {"BRN d:8",                "41 [d8]",                      "I2",       4, H8_BCC,     1,         0,       H8_NEAR,       "",   ""},
@@ -200,7 +255,7 @@ struct matcher {
 };
 static struct matcher matchers[FORMS];
 static uint8_t by_first_byte[256][FORMS + 1];           /* forms that may begin with a byte; ends with FORMS */
-enum { KINDS = H8_DIVIDE + 1 };
+enum { KINDS = H8_GIVE + 1 };
 static int first_of_kind[KINDS + 1], next_of_kind[FORMS];   /* chains of the forms of a kind; end with FORMS */
 
 static int is_hex(char c) { return (c >= '0' && c <= '9') || (c >= 'A' && c <= 'F'); }
@@ -230,7 +285,7 @@ static void field_here(struct matcher *m, int *at, char to, int width, int held,
     *at += width;
 }
 
-/* What stands between brackets: a register field by its name, or a number of so many bits. */
+/* What stands between brackets: a register or a bit number by its name, or a number of so many bits. */
 static void bracket(const struct form *f, struct matcher *m, int *at, const char *text, size_t n)
 {
     int eight = n > 2 && text[0] == '8' && text[1] == '+';
@@ -238,9 +293,9 @@ static void bracket(const struct form *f, struct matcher *m, int *at, const char
         text += 2;
         n -= 2;
     }
-    if (n == 2 && (text[0] == 'r' || text[0] == 'e')) {
+    if (n == 2 && (text[0] == 'r' || text[0] == 'e' || text[0] == 'b')) {
         char to = strlen(f->other) == 2 && !memcmp(f->other, text, 2) ? 'o' : 'r';
-        field_here(m, at, to, 4, text[0] == 'e', (unsigned)eight);
+        field_here(m, at, to, 4, text[0] != 'r', (unsigned)eight);
         return;
     }
     int bits = 0;

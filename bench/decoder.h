@@ -16,7 +16,7 @@ struct form {
     const char *other, *reg;                /* the pattern's fields that become H8_OTHER and H8_REG */
 };
 
-enum { FORMS = 185, ONWARD = 144 };         /* how many; the first 144 always go on to the next instruction */
+enum { FORMS = 239, ONWARD = 198 };         /* how many; the first 198 always go on to the next instruction */
 extern const struct form forms[FORMS];
 
 struct decoded {
@@ -27,7 +27,7 @@ struct decoded {
 void decoder_start(void);                   /* reads the patterns; once, before all else */
 int decoder_length(int form);
 int decoder_value_bits(int form);           /* width of the immediate, displacement or address; 0 if there is none */
-int decoder_other_top(int form);            /* how many registers the field takes: 16, 8, or 0 if there is none */
+int decoder_other_top(int form);            /* how many registers or bits the field takes: 16, 8, or 0 if there is none */
 int decoder_reg_top(int form);
 
 /* 0 accepted, 3 unknown, 4 cut short */

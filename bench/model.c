@@ -184,6 +184,38 @@ static void page_and(struct cpu *c, const uint32_t *f)
 
 static void page_andc(struct cpu *c, const uint32_t *f) { set_condition(c, condition(c) & f[H8_VALUE]); }
 
+/* THE BIT of a bit instruction, as a mask: its number is in the code, or in the low three bits of Rn. */
+static uint32_t bit_mask(struct cpu *c, const uint32_t *f)
+{
+    return 1u << (f[H8_WIDTH] == H8_BIT_NUMBER ? f[H8_OTHER] : get(c, H8_BYTE, f[H8_OTHER]) & 7);
+}
+
+/* EAd in memory: @ERd or @aa:8, and of a byte, so that no bit of it is lost. */
+static uint32_t bit_address(struct cpu *c, const uint32_t *f)
+{
+    return f[H8_FORM] == H8_SPOT_AT ? get(c, H8_LONG, f[H8_REG]) : 0xFFFF00 | f[H8_VALUE];
+}
+
+static uint32_t bit_operand(struct cpu *c, const uint32_t *f)
+{
+    return f[H8_FORM] == H8_SPOT_REG ? get(c, H8_BYTE, f[H8_REG]) : load(c, H8_BYTE, bit_address(c, f));
+}
+
+/* 2.7's D_n. */
+static uint32_t dn(struct cpu *c, const uint32_t *f) { return (bit_operand(c, f) & bit_mask(c, f)) != 0; }
+
+/* EAd with the masked bit set or clear. It is read before it is written, so an address in no memory is refused as a read. */
+static void set_bit(struct cpu *c, const uint32_t *f, uint32_t to)
+{
+    uint32_t mask = bit_mask(c, f), d = bit_operand(c, f), r = to ? d | mask : d & ~mask;
+    if (f[H8_FORM] == H8_SPOT_REG)
+        put(c, H8_BYTE, f[H8_REG], r);
+    else
+        save(c, H8_BYTE, bit_address(c, f), r);
+}
+
+static void page_band(struct cpu *c, const uint32_t *f) { c->f[C] = (uint8_t)(c->f[C] & dn(c, f)); }
+
 /* Table of the page Bcc. */
 static int holds(const struct cpu *c, uint32_t cc)
 {
@@ -221,6 +253,23 @@ static void page_bcc(struct cpu *c, const uint32_t *f)
         go(c, c->next + (uint32_t)displacement(f));
 }
 
+static void page_bclr(struct cpu *c, const uint32_t *f) { set_bit(c, f, 0); }
+static void page_biand(struct cpu *c, const uint32_t *f) { c->f[C] = (uint8_t)(c->f[C] & no(dn(c, f))); }
+static void page_bild(struct cpu *c, const uint32_t *f) { c->f[C] = (uint8_t)no(dn(c, f)); }
+static void page_bior(struct cpu *c, const uint32_t *f) { c->f[C] = (uint8_t)(c->f[C] | no(dn(c, f))); }
+static void page_bist(struct cpu *c, const uint32_t *f) { set_bit(c, f, no(c->f[C])); }
+
+static void page_bixor(struct cpu *c, const uint32_t *f)
+{
+    uint32_t d = dn(c, f);
+    c->f[C] = (uint8_t)((c->f[C] & d) | (no(c->f[C]) & no(d)));
+}
+
+static void page_bld(struct cpu *c, const uint32_t *f) { c->f[C] = (uint8_t)dn(c, f); }
+static void page_bnot(struct cpu *c, const uint32_t *f) { set_bit(c, f, no(dn(c, f))); }
+static void page_bor(struct cpu *c, const uint32_t *f) { c->f[C] = (uint8_t)(c->f[C] | dn(c, f)); }
+static void page_bset(struct cpu *c, const uint32_t *f) { set_bit(c, f, 1); }
+
 /* PC to @-SP: four bytes, the first 0. */
 static void push_next(struct cpu *c)
 {
@@ -233,6 +282,15 @@ static void page_bsr(struct cpu *c, const uint32_t *f)
 {
     push_next(c);
     go(c, c->next + (uint32_t)displacement(f));
+}
+
+static void page_bst(struct cpu *c, const uint32_t *f) { set_bit(c, f, c->f[C]); }
+static void page_btst(struct cpu *c, const uint32_t *f) { c->f[Z] = (uint8_t)no(dn(c, f)); }
+
+static void page_bxor(struct cpu *c, const uint32_t *f)
+{
+    uint32_t d = dn(c, f);
+    c->f[C] = (uint8_t)((c->f[C] & no(d)) | (no(c->f[C]) & d));
 }
 
 static void page_cmp(struct cpu *c, const uint32_t *f)
@@ -522,7 +580,10 @@ static void page_xorc(struct cpu *c, const uint32_t *f) { set_condition(c, condi
 typedef void page(struct cpu *, const uint32_t *);
 static const struct { const char *mnemonic; page *does; } pages[] = {
     {"ADD", page_add}, {"ADDS", page_adds}, {"ADDX", page_addx}, {"AND", page_and}, {"ANDC", page_andc},
-    {"BSR", page_bsr}, {"CMP", page_cmp}, {"DAA", page_daa}, {"DAS", page_das}, {"DEC", page_dec}, {"DIVXS", page_divxs},
+    {"BAND", page_band}, {"BCLR", page_bclr}, {"BIAND", page_biand}, {"BILD", page_bild}, {"BIOR", page_bior}, {"BIST", page_bist},
+    {"BIXOR", page_bixor}, {"BLD", page_bld}, {"BNOT", page_bnot}, {"BOR", page_bor}, {"BSET", page_bset}, {"BSR", page_bsr},
+    {"BST", page_bst}, {"BTST", page_btst}, {"BXOR", page_bxor},
+    {"CMP", page_cmp}, {"DAA", page_daa}, {"DAS", page_das}, {"DEC", page_dec}, {"DIVXS", page_divxs},
     {"DIVXU", page_divxu}, {"EXTS", page_exts}, {"EXTU", page_extu}, {"INC", page_inc}, {"JMP", page_jmp}, {"JSR", page_jsr},
     {"LDC", page_ldc}, {"MOV", page_mov}, {"MULXS", page_mulxs}, {"MULXU", page_mulxu}, {"NEG", page_neg}, {"NOP", page_nop},
     {"NOT", page_not}, {"OR", page_or}, {"ORC", page_orc}, {"ROTL", page_rotl}, {"ROTR", page_rotr},

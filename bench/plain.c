@@ -447,6 +447,73 @@ static int group_7a(struct machine *m, uint32_t b1, uint32_t *pc)
     return 4 + seventy(m, b1 >> 4, word_at(m, m->pc + 2) << 16 | word_at(m, m->pc + 4), b1 & 7, 32);
 }
 
+/* THE BIT INSTRUCTIONS by their byte, 60 to 63, 67 and 70 to 77, and the byte behind it: above the bit's number (with 8 the
+   inverse) or the register that has it, below the operand's register. */
+ALWAYS int bit_gives(uint32_t op) { return op <= 0x72 && op != 0x63; }
+ALWAYS int bit_known(uint32_t op, uint32_t digits)
+{
+    if (op >> 3 == 0x60 >> 3)
+        return op <= 0x63 || op == 0x67;
+    return op >> 3 == 0x70 >> 3 && (op > 0x73 || digits < 0x80);
+}
+ALWAYS uint32_t bit_of(const struct machine *m, uint32_t op, uint32_t digits)
+{
+    return 1u << ((op <= 0x63 ? get8(m, digits >> 4) : digits >> 4) & 7);
+}
+ALWAYS uint32_t with_bit(const struct machine *m, uint32_t op, uint32_t digits, uint32_t x)
+{
+    uint32_t bit = bit_of(m, op, digits);
+    switch (op & 7) {
+    case 0: return x | bit;
+    case 1: return x ^ bit;
+    case 2: return x & ~bit;
+    default: return (m->cc & CF) != digits >> 7 ? x | bit : x & ~bit;
+    }
+}
+ALWAYS void take_bit(struct machine *m, uint32_t op, uint32_t digits, uint32_t x)
+{
+    uint32_t b = (x & bit_of(m, op, digits) ? 1 : 0) ^ (op > 0x73 ? digits >> 7 : 0);
+    switch (op & 7) {
+    case 3: m->cc = b ? m->cc & ~(uint32_t)ZF : m->cc | ZF; break;
+    case 4: m->cc |= b; break;
+    case 5: m->cc ^= b; break;
+    case 6: m->cc &= ~(uint32_t)CF | b; break;
+    default: m->cc = (m->cc & ~(uint32_t)CF) | b; break;
+    }
+}
+static int bit_in_register(struct machine *m, uint32_t op, uint32_t digits)
+{
+    uint32_t d = digits & 15;
+    if (!bit_known(op, digits))
+        return refuse(m, 3, m->pc);
+    if (bit_gives(op))
+        put8(m, d, with_bit(m, op, digits, get8(m, d)));
+    else
+        take_bit(m, op, digits, get8(m, d));
+    return 2;
+}
+/* 7C to 7F: where the operand is, @ER or FFFFaa; the odd ones write it. Then the instruction, its last digit 0. */
+static int bit_in_memory(struct machine *m, uint32_t b0, uint32_t b1, uint32_t *pc)
+{
+    uint32_t at = m->pc + 2, op, digits, ea, x;
+    if (b0 < 0x7E && b1 & 0x8F)
+        return refuse(m, 3, m->pc);
+    if (at >= m->rom_n)
+        return refuse(m, 4, m->pc);
+    op = m->rom[at];
+    digits = m->rom[at + 1];
+    if (!bit_known(op, digits) || digits & 15 || bit_gives(op) != (int)(b0 & 1))
+        return refuse(m, 3, m->pc);
+    *pc = at + 2;
+    ea = b0 < 0x7E ? m->er[b1 >> 4] : 0xFFFF00 | b1;
+    if (!load(m, ea, 8, &x))
+        return 0;
+    if (bit_gives(op))
+        return save(m, ea, 8, with_bit(m, op, digits, x)) ? 8 : 0;
+    take_bit(m, op, digits, x);
+    return 6;
+}
+
 ALWAYS int holds(uint32_t cc, uint32_t digit)
 {
     int c = cc & CF ? 1 : 0, v = cc & VF ? 1 : 0, z = cc & ZF ? 1 : 0, n = cc & NF ? 1 : 0, yes;
@@ -559,6 +626,8 @@ ALWAYS int step(struct machine *m)
     case 0x54: case 0x55: case 0x58: case 0x59: case 0x5A: case 0x5B: case 0x5C: case 0x5D: case 0x5E: case 0x5F:
         s = group_5(m, b0, b1, &pc);
         break;
+    case 0x60: case 0x61: case 0x62: case 0x63: case 0x67:
+    case 0x70: case 0x71: case 0x72: case 0x73: case 0x74: case 0x75: case 0x76: case 0x77: s = bit_in_register(m, b0, b1); break;
     case 0x64: s = alu_regs(m, OR, b1, 16); break;
     case 0x65: s = alu_regs(m, XOR, b1, 16); break;
     case 0x66: s = alu_regs(m, AND, b1, 16); break;
@@ -572,6 +641,7 @@ ALWAYS int step(struct machine *m)
     case 0x6F: s = displaced(m, b1, 0, 16, &pc, 6); break;
     case 0x79: s = group_79(m, b1, &pc); break;
     case 0x7A: s = group_7a(m, b1, &pc); break;
+    case 0x7C: case 0x7D: case 0x7E: case 0x7F: s = bit_in_memory(m, b0, b1, &pc); break;
     default:
         x = b0 & 15;
         switch (b0 >> 4) {
@@ -735,6 +805,18 @@ static struct line line_5(const uint8_t *c, uint32_t p, uint32_t left)
     }
 }
 
+/* After 7C to 7F. */
+static struct line line_7c(const uint8_t *c, uint32_t p, uint32_t left)
+{
+    if (c[0] < 0x7E && c[1] & 0x8F)
+        return stops(3);
+    if (left < 4)
+        return stops(4);
+    if (!bit_known(c[2], c[3]) || c[3] & 15 || bit_gives(c[2]) != (c[0] & 1))
+        return stops(3);
+    return on(p, left, 4, bit_gives(c[2]) ? 8 : 6);
+}
+
 /* Second bytes that are codes, by their upper digit, a bit each: with a lower digit 0 to F, and with 0 to 7 only. */
 struct digits { uint16_t any, low; };
 static const struct digits in_0a = {0x0001, 0xFF00}, in_0b = {0x2020, 0x8381}, in_10 = {0x0303, 0x0808}, in_17 = {0x2323, 0x8888};
@@ -764,7 +846,9 @@ ALWAYS struct line look(const uint8_t *rom, uint32_t rom_n, uint32_t p)
     case 0x17: return among(in_17, p, left, b1);
     case 0x04: case 0x05: case 0x06: case 0x07: case 0x08: case 0x09: case 0x0C: case 0x0D: case 0x0E:
     case 0x14: case 0x15: case 0x16: case 0x18: case 0x19: case 0x1C: case 0x1D: case 0x1E:
-    case 0x64: case 0x65: case 0x66: return on(p, left, 2, 2);
+    case 0x64: case 0x65: case 0x66: case 0x60: case 0x61: case 0x62: case 0x63: case 0x67:
+    case 0x74: case 0x75: case 0x76: case 0x77: return on(p, left, 2, 2);
+    case 0x70: case 0x71: case 0x72: case 0x73: return b1 & 0x80 ? stops(3) : on(p, left, 2, 2);
     case 0x68: case 0x69: return on(p, left, 2, 4);
     case 0x6A: case 0x6B:
         if (b1 & 0x50)
@@ -776,6 +860,7 @@ ALWAYS struct line look(const uint8_t *rom, uint32_t rom_n, uint32_t p)
     case 0x6E: case 0x6F: return on(p, left, 4, 6);
     case 0x79: return b1 >> 4 > 6 ? stops(3) : on(p, left, 4, 4);
     case 0x7A: return b1 >> 4 > 6 || b1 & 8 ? stops(3) : on(p, left, 6, 6);
+    case 0x7C: case 0x7D: case 0x7E: case 0x7F: return line_7c(c, p, left);
     default: break;
     }
     switch (c[0] >> 4) {

@@ -31,6 +31,14 @@ uint32_t h8_decode(const uint8_t *bytes, size_t n, uint32_t *fields, size_t fiel
         answer = 4;
     if (FAULT == 4 && answer == 0 && d.fields[H8_KIND] == H8_JSR && d.fields[H8_FORM] == H8_VECTOR)
         d.fields[H8_STATES] = 10;
+    if (FAULT == 33 && n >= 4 && bytes[0] == 0x7C && answer == 3)                   /* behind 7C a writer is taken */
+        answer = decode((const uint8_t[]){0x7D, bytes[1], bytes[2], bytes[3]}, 4, &d);
+    if (FAULT == 34 && answer == 0 && d.fields[H8_KIND] == H8_GIVE && d.fields[H8_FORM] == H8_SPOT_ABS8)
+        d.fields[H8_STATES] = 6;                                                    /* its write is not counted */
+    if (FAULT == 35 && n >= 4 && bytes[0] == 0x7F && answer == 3)                   /* the last digit need not be 0 */
+        answer = decode((const uint8_t[]){0x7F, bytes[1], bytes[2], bytes[3] & 0xF0}, 4, &d);
+    if (FAULT == 36 && n >= 2 && bytes[0] == 0x70 && answer == 3)                   /* BSET with the number's top bit set */
+        answer = decode((const uint8_t[]){0x70, bytes[1] & 0x7F}, 2, &d);
     if (answer)
         return (uint32_t)answer;
     memcpy(fields, d.fields, sizeof d.fields);
@@ -46,6 +54,8 @@ uint32_t h8_encode(const uint32_t *fields, size_t fields_n, uint8_t *out, size_t
     if (answer_n < 3)
         return 13;
     form = fields_n < H8_FIELDS ? -1 : form_of(fields);
+    if (FAULT == 37 && form < 0 && fields_n >= H8_FIELDS && fields[0] == H8_TAKE && fields[4] == 8) /* bit 8 taken for bit 0 */
+        form = form_of((const uint32_t[]){fields[0], fields[1], fields[2], fields[3], 0, fields[5], fields[6], 0, 0});
     if (form < 0 && !(FAULT == 5 && fields_n >= H8_FIELDS && fields[0] == H8_RTS && fields[1] == 0 && fields[2] == 0)) {
         number = 11;
     } else {
@@ -85,6 +95,102 @@ static uint32_t let_pass(const uint8_t *code, uint32_t *regs, uint32_t *answer)
     answer[0] = answer[1] = 0;
     answer[2] = 24;
     return 0;
+}
+
+/* A BIT INSTRUCTION of which one thing is wrong: what it was given, and what the right one has made of it. */
+struct bits {
+    uint32_t f[H8_FIELDS], address, number;         /* number: what the register of the bit's number held, or the number */
+    const uint32_t *was;
+    uint32_t *regs, *answer;
+    uint8_t *cell, cell_was;                        /* the operand in working memory, or none */
+};
+
+static void set_byte_of(uint32_t *regs, uint32_t digit, uint32_t x)
+{
+    uint32_t shift = digit & 8 ? 0 : 8;
+    regs[digit & 7] = (regs[digit & 7] & ~(255u << shift)) | x << shift;
+}
+
+static uint32_t before(const struct bits *b) { return b->f[H8_FORM] == H8_SPOT_REG ? byte_of(b->was, b->f[H8_REG]) : b->cell_was; }
+static uint32_t after(const struct bits *b) { return b->cell ? *b->cell : byte_of(b->regs, b->f[H8_REG]); }
+static void leave(const struct bits *b, uint32_t x)
+{
+    if (b->cell)
+        *b->cell = (uint8_t)x;
+    else
+        set_byte_of(b->regs, b->f[H8_REG], x);
+}
+
+static void spoil_gift(const struct bits *b)
+{
+    uint32_t which = b->f[H8_WHICH], bit = 1u << (b->number & 7), by_register = b->f[H8_WIDTH] == H8_BIT_BY_REG;
+    if (FAULT == 29 && by_register && b->number > 7)                                /* the number is not taken modulo 8 */
+        leave(b, before(b));
+    if (FAULT == 30 && which == H8_BCLR)                                            /* its neighbour is cleared too */
+        leave(b, after(b) & ~(bit << 1));
+    if (FAULT == 31 && which == H8_BIST)                                            /* stores C, not its inverse */
+        leave(b, after(b) ^ bit);
+    if (FAULT == 38 && which == H8_BST && b->cell)                                  /* stores C as the whole byte */
+        leave(b, after(b) & bit);
+    if (FAULT == 39 && which == H8_BNOT && by_register && !b->cell && b->f[H8_OTHER] == b->f[H8_REG])
+        leave(b, before(b) ^ 1u << (after(b) & 7));                                 /* the number is read after the change */
+    if (FAULT == 40 && which == H8_BSET)                                            /* Z tells what the bit was */
+        b->regs[H8_CONDITION] = (b->was[H8_CONDITION] & ~4u) | (before(b) & bit ? 0 : 4);
+    if (FAULT == 41 && b->cell)                                                     /* 6 states, as a reader has */
+        b->answer[2] = 6;
+}
+
+static void spoil_taking(const struct bits *b)
+{
+    uint32_t *c = &b->regs[H8_CONDITION];
+    if (FAULT == 28 && b->f[H8_WHICH] == H8_BTST)                                   /* Z is the bit, not its inverse */
+        *c ^= 4;
+    if (FAULT == 42 && b->f[H8_WHICH] == H8_BLD)                                    /* Z is set too, as by BTST */
+        *c = (*c & ~4u) | (*c & 1 ? 0 : 4);
+    if (FAULT == 43 && b->f[H8_WHICH] == H8_BIXOR)                                  /* BXOR of it */
+        *c ^= 1;
+}
+
+/* The faults of what is refused, or of where the operand is looked for. */
+static uint32_t spoil_place(const struct bits *b, uint32_t got, uint8_t *ram, size_t ram_n)
+{
+    int gives = b->f[H8_KIND] == H8_GIVE;
+    if (FAULT == 32 && gives && got == 5)                                           /* the write is looked for before the read */
+        got = b->answer[0] = 6;
+    if (FAULT == 44 && gives && got == 6 && ram_n)                                  /* a refused step has written */
+        ram[0] ^= 1;
+    if (FAULT == 45 && got == 6)                                                    /* a refused step has gone on */
+        b->regs[H8_PC] += 4;
+    if (FAULT == 46 && !gives && b->address < 8 && got == 0)                        /* a reader refused in read-only memory */
+        return b->answer[0] = 6, b->answer[1] = b->address, b->answer[2] = 0, memcpy(b->regs, b->was, 40), 6;
+    if (FAULT == 47 && gives && got == 0 && b->address & 1 && b->cell) {            /* the address is made even */
+        uint8_t now = *b->cell;
+        *b->cell = b->cell_was;
+        b->cell[-1] = now;
+    }
+    return got;
+}
+
+static uint32_t bit_step(uint32_t base, const uint8_t *rom, size_t rom_n, uint8_t *ram, size_t ram_n, uint32_t *regs, uint32_t *answer)
+{
+    uint32_t was[10];
+    struct decoded d;
+    struct bits b = {.was = was, .regs = regs, .answer = answer};
+    memcpy(was, regs, sizeof was);
+    int known = was[8] < rom_n && decode(rom + was[8], rom_n - was[8], &d) == 0 && d.fields[H8_KIND] >= H8_TAKE;
+    if (known) {
+        memcpy(b.f, d.fields, sizeof b.f);
+        b.address = b.f[H8_FORM] == H8_SPOT_AT ? was[b.f[H8_REG]] & 0xFFFFFF : 0xFFFF00 | b.f[H8_VALUE];
+        b.number = b.f[H8_WIDTH] == H8_BIT_BY_REG ? byte_of(was, b.f[H8_OTHER]) : b.f[H8_OTHER];
+        b.cell = b.f[H8_FORM] == H8_SPOT_REG || b.address - base >= ram_n ? NULL : ram + (b.address - base);
+        b.cell_was = b.cell ? *b.cell : 0;
+    }
+    uint32_t got = plain_step(base, rom, rom_n, ram, ram_n, regs, 10, answer, 3);
+    if (!known || got == 1)
+        return got;
+    if (got == 0)
+        b.f[H8_KIND] == H8_GIVE ? spoil_gift(&b) : spoil_taking(&b);
+    return b.f[H8_FORM] == H8_SPOT_REG ? got : spoil_place(&b, got, ram, ram_n);
 }
 
 /* The fault of a step: `was` before, `regs` after. */
@@ -135,7 +241,9 @@ static uint32_t one_step(uint32_t base, const uint8_t *rom, size_t rom_n, uint8_
 uint32_t h8_step(uint32_t base, const uint8_t *rom, size_t rom_n, uint8_t *ram, size_t ram_n,
                  uint32_t *regs, size_t regs_n, uint32_t *answer, size_t answer_n)
 {
-    if ((FAULT >= 6 && FAULT <= 15) || FAULT >= 25)
+    if (FAULT >= 28 && regs_n >= 10 && answer_n >= 3)
+        return bit_step(base, rom, rom_n, ram, ram_n, regs, answer);
+    if ((FAULT >= 6 && FAULT <= 15) || (FAULT >= 25 && FAULT <= 27))
         return one_step(base, rom, rom_n, ram, ram_n, regs, regs_n, answer, answer_n);
     if (FAULT == 16 && regs_n == 10 && answer_n >= 3 && rom_n == 524288)            /* the longest memory refused */
         return answer[0] = 1, answer[1] = answer[2] = 0, 1;

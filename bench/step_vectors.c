@@ -121,6 +121,8 @@ static uint32_t value_of(uint32_t k, uint32_t x)
     uint32_t up = k % 12;
     if (f->kind == H8_MOVE && f->form == H8_DISP)
         return k % 2 ? 2 : 0xFFFE;
+    if (f->kind == H8_TAKE || f->kind == H8_GIVE)
+        return BASE + up;
     if (f->kind == H8_MOVE)
         return f->form == H8_ABS16 && f->which == H8_LOAD ? up : BASE + up;
     return (f->kind == H8_JMP || f->kind == H8_JSR) && f->form == H8_VECTOR ? 5 * up : x;
@@ -130,7 +132,9 @@ static uint32_t value_of(uint32_t k, uint32_t x)
 static uint64_t code_of(uint32_t k)
 {
     int form = ordered[k], move = forms[form].kind == H8_MOVE, divide = forms[form].kind == H8_DIVIDE;
-    uint32_t other = move ? 5 + k % 3 : divide ? number(3 * k) % 5 : number(3 * k), reg = divide ? 13 + k % 3 : number(3 * k + 2);
+    int bit = forms[form].kind >= H8_TAKE && forms[form].form == H8_SPOT_AT;
+    uint32_t other = move ? 5 + k % 3 : divide ? number(3 * k) % 5 : number(3 * k);
+    uint32_t reg = divide ? 13 + k % 3 : bit ? 5 + k / 3 % 3 : number(3 * k + 2);
     uint8_t code[8];
     build(form, other, value_of(k, number(3 * k + 1)), reg, code);
     return joined(code);
@@ -234,6 +238,19 @@ static const struct start small[] = {
     {"divide", 0xFFEF10, 0x01D0518100000000, 0x80, 0x407F, 0, 0, 0x00, 1},       /* -128 fits */
     {"divide", 0xFFEF10, 0x01D0530100000000, 0xFFFF, 0x00008000, 0, 0, 0x00, 1},
     {"divide", 0xFFEF10, 0x01D0539100000000, 0, 0xFFFFFFFF, 0, 0, 0x00, 1},      /* by its own upper half */
+    {"refusal 3", 0xFFEF10, 0x7C10700000000000, 0, 0x00FFEF10, 0, 0, 0x00, 1},   /* BSET behind 7C */
+    {"refusal 3", 0xFFEF10, 0x7080000000000000, 0, 0, 0, 0, 0x00, 1},            /* no number of a bit */
+    {"refusal 4", 0xFFEF10, 0x0000000000007D10, 0, 0, 0, 6, 0x00, 1},            /* before 5 */
+    {"refusal 5", 0xFFEF10, 0x7D10700000000000, 0, 0x00FFEF13, 0, 0, 0xFF, 1},   /* before 6: read first */
+    {"refusal 5", 0xFFEF10, 0x7E40770000000000, 0, 0, 0, 0, 0xFF, 1},            /* FFFF40 */
+    {"refusal 6", 0xFFEF10, 0x7D10670000000000, 0, 0x00000005, 0, 0, 0xFF, 1},
+    {"bit", 0xFFEF10, 0x6088000000000000, 0x0A, 0, 0, 0, 0x00, 1},               /* its own number: bit 2 */
+    {"bit", 0xFFEF10, 0x6298000000000000, 0xFF, 0xFF, 0, 0, 0xFF, 1},            /* number 255: bit 7 */
+    {"bit", 0xFFEF10, 0x7301000000000000, 0, 0x0100, 0, 0, 0xFF, 1},             /* BTST of 1: Z clear */
+    {"bit", 0xFFEF10, 0x7319000000000000, 0, 0x0001, 0, 0, 0x00, 1},             /* BTST of 0: Z set */
+    {"bit", 0xFFEF10, 0x67F8000000000000, 0x80, 0, 0, 0, 0x01, 1},               /* BIST of C */
+    {"bit", 0xFFEF10, 0x7C10773000000000, 0, 0x00000003, 0, 0, 0x01, 1},         /* a reader in read-only memory */
+    {"bit", 0xFFEF10, 0x7D10712000000000, 0, 0x12FFEF11, 0, 0, 0x00, 1},         /* an odd address */
 };
 
 /* And on the board of the forms. */

@@ -225,7 +225,7 @@ static void all_choices(void)
 {
     static const uint32_t digits[] = {0, 7, 8, 15, 16, 0xFFFFFFFF};
     static const uint32_t values[] = {0, 1, 0xFF, 0x100, 0xFFFF, 0x10000, 0xFFFFFF, 0x1000000, 0xFFFFFFFF};
-    enum { KINDS = H8_DIVIDE + 2, CHOICES = 17, WIDTHS = 4, FORMS_OF = 7 };     /* with one too many of each */
+    enum { KINDS = H8_GIVE + 2, CHOICES = 17, WIDTHS = 4, FORMS_OF = 7 };     /* with one too many of each */
     for (uint32_t k = 0; k < KINDS * CHOICES * WIDTHS * FORMS_OF && !failing(); k++)
         for (uint32_t v = 0; v < 6 * 9 * 6; v++) {
             uint32_t f[H8_FIELDS] = {k % KINDS, k / KINDS % CHOICES, k / KINDS / CHOICES % WIDTHS, k / KINDS / CHOICES / WIDTHS,

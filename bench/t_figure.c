@@ -344,6 +344,14 @@ static const struct told tolds[] = {
     {"MULXS cut short", "000001C0", 0, 4, 2, 0},
     {"no DIVXS behind 01C0", "01C051815470", 0, 3, 0, 0},
     {"MULXU.W with a digit above 7", "52085470", 0, 3, 0, 0},
+    {"a bit in a register 2, read in memory 6, written in memory 8, RTS 10", "701963997C1073007EFF74F07D7067807FFF61805470", 0, 0, 0, 42},
+    {"a bit in no memory has a figure: data doesn't count", "7D0070005470", 0, 0, 0, 18},
+    {"BTST @ER cut short", "00007C10", 0, 4, 2, 0},
+    {"BCLR @aa:8 cut short", "7F88", 0, 4, 0, 0},
+    {"no writer behind 7C", "7C1070005470", 0, 3, 0, 0},
+    {"no reader behind 7F", "7F1073005470", 0, 3, 0, 0},
+    {"no BSET with the number's top bit set", "70805470", 0, 3, 0, 0},
+    {"the last digit of a bit in memory is 0", "7D1070015470", 0, 3, 0, 0},
 };
 
 static void compare_told(const struct told *t)

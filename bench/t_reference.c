@@ -23,7 +23,10 @@ static long states_of_cycles(const char *text)
 
 /* The numbers are reckoned by hand from the code list. Document 01's set has 119 + 41 + 15 + 2 forms and 6,265 + 1,155 + 264 +
    16 codes. MULXU and DIVXU add four forms of 2 bytes: by byte 16 x 16 codes each, by word 16 x 8, together 2 (256 + 128) =
-   768. MULXS and DIVXS add four forms and 768 codes of 4 bytes. */
+   768. MULXS and DIVXS add four forms and 768 codes of 4 bytes. The bit instructions add 14 forms by number and 4 by register,
+   each for a register, @ER and aa:8. By number 4 have a byte of their own and one half of its digits, 8 numbers, and 10 share 5
+   bytes; with the 16 registers of the 4 others that makes (4 x 8 + 5 x 16 + 4 x 16) = 176 by 16 operands = 2,816 codes of 2
+   bytes, and of 4 bytes 176 by 8 operands and, the address apart, 176: 1,584. */
 static void count_rows(void)
 {
     long shapes = 0, rows_of[9] = {0}, shapes_of[9] = {0};
@@ -35,48 +38,58 @@ static void count_rows(void)
         shapes_of[length] += here;
         expect(forms[i].name, states_of_cycles(forms[i].cycles), forms[i].states);
     }
-    expect("codes without operands", shapes, 7700 + 2 * 768);
-    expect("rows of 2 bytes", rows_of[2], 119 + 4);
-    expect("rows of 4 bytes", rows_of[4], 41 + 4);
+    expect("codes without operands", shapes, 7700 + 2 * 768 + 2816 + 1584);
+    expect("rows of 2 bytes", rows_of[2], 119 + 4 + 18);
+    expect("rows of 4 bytes", rows_of[4], 41 + 4 + 36);
     expect("rows of 6 bytes", rows_of[6], 15);
     expect("rows of 8 bytes", rows_of[8], 2);
-    expect("codes of 2 bytes", shapes_of[2], 6265 + 768);
-    expect("codes of 4 bytes", shapes_of[4], 1155 + 768);
+    expect("codes of 2 bytes", shapes_of[2], 6265 + 768 + 2816);
+    expect("codes of 4 bytes", shapes_of[4], 1155 + 768 + 1584);
     expect("codes of 6 bytes", shapes_of[6], 264);
     expect("codes of 8 bytes", shapes_of[8], 16);
 }
 
-/* Second words with which 01 and `second` are a code or begin one. */
-static long words_after(uint8_t second)
+/* Second words with which `first` is a code or begins one. */
+static long words_after(uint32_t first)
 {
     struct decoded d;
     long n = 0;
     for (unsigned w = 0; w < 65536; w++)
-        n += decode((const uint8_t[]){1, second, (uint8_t)(w >> 8), (uint8_t)w}, 4, &d) != 3;
+        n += decode((const uint8_t[]){(uint8_t)(first >> 8), (uint8_t)first, (uint8_t)(w >> 8), (uint8_t)w}, 4, &d) != 3;
     return n;
 }
 
 /* Document 01's set has 52,930 first words that are codes, 1,339 that begin longer ones, and 231 first bytes. To these come
    the 768 codes of MULXU and DIVXU, with the first bytes 50 to 53, and the words 01C0 and 01D0; after each of these two a byte
-   form (256) and a word form (128). */
+   form (256) and a word form (128). Of the bit instructions come 2,816 codes, with the first bytes 60 to 63, 67 and 70 to 77,
+   and 7C e0, 7D e0, 7E aa and 7F aa, 2 (8 + 256) words; after each of these 88 words: behind 7C and 7E 63 r0 (16), 73 i0 (8) and 74
+   to 77 with any digit (64), behind 7D and 7F 60 to 62 (48), 70 to 72 (24) and 67 with any digit (16). That leaves 7,153 words. */
 static void count_words(void)
 {
     struct decoded d;
-    long whole = 0, longer = 0, bytes = 0;
+    long whole = 0, longer = 0, none = 0, bytes = 0;
     for (unsigned w = 0; w < 65536; w++) {
         uint8_t b[2] = {(uint8_t)(w >> 8), (uint8_t)w};
         int a = decode(b, 2, &d);
         whole += a == 0;
         longer += a == 4;
+        none += a == 3;
         bytes += b[1] == 0 && decode(b, 1, &d) == 4;
     }
-    expect("first words that are whole codes", whole, 52930 + 768);
-    expect("first words that begin a longer code", longer, 1339 + 2);
-    expect("first bytes that begin a code", bytes, 231 + 4);
-    expect("second words after 0100", words_after(0x00), 416);
-    expect("second words after 01C0", words_after(0xC0), 384);
-    expect("second words after 01D0", words_after(0xD0), 384);
-    expect("second words after 01F0", words_after(0xF0), 192);
+    expect("first words that are whole codes", whole, 52930 + 768 + 2816);
+    expect("first words that begin a longer code", longer, 1339 + 2 + 2 * (8 + 256));
+    expect("first words that begin none", none, 7153);
+    expect("first bytes that begin a code", bytes, 231 + 4 + 13 + 4);
+    expect("second words after 0100", words_after(0x0100), 416);
+    expect("second words after 01C0", words_after(0x01C0), 384);
+    expect("second words after 01D0", words_after(0x01D0), 384);
+    expect("second words after 01F0", words_after(0x01F0), 192);
+    for (uint32_t i = 0; i < 8; i++) {
+        expect("second words after 7C e0", words_after(0x7C00 + 16 * i), 88);
+        expect("second words after 7D e0", words_after(0x7D00 + 16 * i), 88);
+        expect("second words after 7E aa", words_after(0x7E00 + 37 * i), 88);
+        expect("second words after 7F aa", words_after(0x7F00 + 36 * i), 88);
+    }
 }
 
 /* The first ONWARD forms are those that go on. */

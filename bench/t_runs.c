@@ -234,7 +234,23 @@ static uint32_t program_value(const struct board *b, int form)
         return below(8) ? below(2) ? 2 * below((uint32_t)b->rom_n / 2 + 1) : b->base + below((uint32_t)b->ram_n + 2) : (uint32_t)any();
     if (f->kind == H8_MOVE && f->form == H8_DISP)
         return below(16) - 8;
+    if (f->kind == H8_TAKE || f->kind == H8_GIVE)
+        return b->base + below((uint32_t)b->ram_n);
     return below(4) ? edge32() : b->base + below(64);
+}
+
+/* Jumps end a program soon, and so do bits in memory, by any register or at FFFFaa. */
+static int ends_soon(int form)
+{
+    return form >= ONWARD || ((forms[form].kind == H8_TAKE || forms[form].kind == H8_GIVE) && forms[form].form != H8_SPOT_REG);
+}
+
+static int some_form(void)
+{
+    int form = (int)below(FORMS);
+    while (ends_soon(form) && below(3))
+        form = (int)below(ONWARD);
+    return form;
 }
 
 static size_t make_program(uint8_t *rom, const struct board *b)
@@ -242,9 +258,7 @@ static size_t make_program(uint8_t *rom, const struct board *b)
     size_t at = 0;
     while (at + 8 <= b->rom_n) {
         uint8_t code[8];
-        int form = (int)below(FORMS);
-        if (form >= ONWARD && below(3))
-            form = (int)below(ONWARD);
+        int form = some_form();
         int n = build(form, below(2) ? below(4) : (uint32_t)any(), program_value(b, form), (uint32_t)any(), code);
         memcpy(rom + at, code, (size_t)n);
         at += (size_t)n;
@@ -287,7 +301,7 @@ void test_runs(const char *samples)
     in_pieces(samples, "sheet", 0x200);
     end("runs");
     begin("runs of random programs against the model's repeated step");
-    for (int k = 0; k < 40000 && !failing(); k++)
+    for (int k = 0; k < 48000 && !failing(); k++)
         random_program(endings, &steps);
     for (int i = 0; i < 3; i++)
         if (endings[i] < 1000 && !failing())

@@ -44,6 +44,8 @@ static uint32_t some_address(const struct state *s)
     }
 }
 
+static int is_bit(int form) { return forms[form].kind == H8_TAKE || forms[form].kind == H8_GIVE; }
+
 /* So that the instruction reaches an interesting address: the register it goes by is set. */
 static void aim(struct state *s, const struct decoded *d)
 {
@@ -55,6 +57,8 @@ static void aim(struct state *s, const struct decoded *d)
         a += size;
     if (f[H8_KIND] == H8_MOVE && f[H8_FORM] <= H8_DISP)
         s->regs[f[H8_OTHER]] = a | (uint32_t)(below(3) ? 0 : any() << 24);
+    if (is_bit(d->form) && f[H8_FORM] == H8_SPOT_AT)
+        s->regs[f[H8_REG]] = a | (uint32_t)(below(3) ? 0 : any() << 24);
     if (f[H8_KIND] == H8_BSR || f[H8_KIND] == H8_JSR)
         s->regs[7] = a + 4;
     if (f[H8_KIND] == H8_RTS)
@@ -65,7 +69,7 @@ static void aim(struct state *s, const struct decoded *d)
 static uint32_t some_value(const struct state *s, int form)
 {
     const struct form *f = &forms[form];
-    if (f->kind == H8_MOVE && f->form != H8_DISP)
+    if ((f->kind == H8_MOVE && f->form != H8_DISP) || is_bit(form))
         return some_address(s);
     return below(3) ? edge32() : (uint32_t)any();
 }
@@ -132,11 +136,12 @@ static void near_overflow(struct state *s, const struct decoded *d)
     set_part(s, (int)f[H8_WIDTH], f[H8_OTHER], y);
 }
 
-/* A form with any registers; every fourth product or quotient has its source in its destination. */
+/* A form with any registers; every fourth product or quotient has its source in its destination, and every fourth bit
+   instruction the number in its operand or in the address of it. */
 static int build_some(const struct state *s, int form, uint8_t code[8])
 {
     uint32_t value = some_value(s, form), other = (uint32_t)any(), reg = (uint32_t)any();
-    if (is_product(form) && below(4) == 0)
+    if ((is_product(form) || is_bit(form)) && below(4) == 0)
         other = (reg & 7) | (below(2) ? 8 : 0);
     return build(form, other, value, reg, code);
 }
@@ -219,7 +224,7 @@ void test_steps(void)
     for (int f = 0; f < FORMS; f++)
         steps_of(f, n);
     steps_anywhere(n);
-    begin("step of each of the 185 forms against the model, completed and refused");
+    begin("step of each of the 239 forms against the model, completed and refused");
     for (int i = 0; i < NUMBERS; i++)
         all += n[i];
     for (int i = 0; i < NUMBERS; i++)

@@ -89,6 +89,8 @@ enum h8_register { H8_ER0 = 0, H8_ER7 = 7, H8_PC = 8, H8_CONDITION = 9, H8_REGIS
      H8_RTS        -            -        -            -                         -                      -
      H8_MULTIPLY   h8_sign      of Rs    -            Rs                        -                      Rd, or ERd
      H8_DIVIDE     h8_sign      of Rs    -            Rs                        -                      Rd, or ERd
+     H8_TAKE       h8_take      h8_index h8_spot      bit's number, or Rn       aa:8, or 0             Rd, ERd, or 0
+     H8_GIVE       h8_give      h8_index h8_spot      bit's number, or Rn       aa:8, or 0             Rd, ERd, or 0
 
    A register is the digit of the code. Byte: 0 to 7 R0H to R7H, 8 to 15 R0L to R7L. Word: 0 to 7 R0 to R7, 8 to 15 E0 to
    E7. Long, and every address register: 0 to 7. A condition is the digit of the code, 0 BRA, 1 BRN, ... 15 BLE.
@@ -96,6 +98,9 @@ enum h8_register { H8_ER0 = 0, H8_ER7 = 7, H8_PC = 8, H8_CONDITION = 9, H8_REGIS
    their width, aa:8 is at most 255, aa:16 at most 65,535, aa:24 at most 16,777,215.
    H8_MULTIPLY and H8_DIVIDE have the width of the source, byte or word; the destination has twice its bits: with a byte it
    is a word's register, Rd, and with a word a long's, ERd.
+   H8_TAKE are the bit instructions that read their bit, H8_GIVE those that write it. The bit's number is in the code, 0 to 7,
+   or is the low three bits of the byte register Rn; only BTST, BSET, BNOT and BCLR take it from there. The bit is in the
+   byte register Rd, or in memory at @ERd or @aa:8.
    MOV between registers and with an immediate is H8_ALU with H8_MOV; with memory it is H8_MOVE. */
 enum h8_field {
     H8_KIND = 0, H8_WHICH = 1, H8_WIDTH = 2, H8_FORM = 3, H8_OTHER = 4, H8_VALUE = 5, H8_REG = 6,
@@ -104,7 +109,7 @@ enum h8_field {
 enum h8_kind {
     H8_NOP, H8_STC, H8_LDC, H8_CCR, H8_ALU, H8_INCDEC, H8_ADDSSUBS, H8_DECIMAL,
     H8_SHIFT, H8_UNARY, H8_MOVE, H8_BCC, H8_JMP, H8_BSR, H8_JSR, H8_RTS,
-    H8_MULTIPLY, H8_DIVIDE
+    H8_MULTIPLY, H8_DIVIDE, H8_TAKE, H8_GIVE
 };
 enum h8_width { H8_BYTE, H8_WORD, H8_LONG };
 enum h8_change { H8_ORC, H8_XORC, H8_ANDC, H8_LDC_IMM };
@@ -115,6 +120,10 @@ enum h8_by { H8_BY_1, H8_BY_2, H8_BY_4 };
 enum h8_turn { H8_SHLL, H8_SHLR, H8_ROTXL, H8_ROTXR, H8_SHAL, H8_SHAR, H8_ROTL, H8_ROTR };
 enum h8_single { H8_NOT, H8_NEG, H8_EXTU, H8_EXTS };
 enum h8_sign { H8_UNSIGNED, H8_SIGNED };        /* MULXU, DIVXU; or MULXS, DIVXS */
+enum h8_take { H8_BTST, H8_BOR, H8_BIOR, H8_BXOR, H8_BIXOR, H8_BAND, H8_BIAND, H8_BLD, H8_BILD };
+enum h8_give { H8_BSET, H8_BNOT, H8_BCLR, H8_BST, H8_BIST };
+enum h8_index { H8_BIT_NUMBER, H8_BIT_BY_REG }; /* #xx:3, Rn */
+enum h8_spot { H8_SPOT_REG, H8_SPOT_AT, H8_SPOT_ABS8 };                  /* Rd, @ERd, @aa:8 */
 enum h8_dir { H8_LOAD, H8_STORE };
 enum h8_place { H8_AT, H8_STEP, H8_DISP, H8_ABS8, H8_ABS16, H8_ABS24 };  /* H8_STEP: @ER+ of a load, @-ER of a store */
 enum h8_reach { H8_NEAR, H8_FAR };              /* d:8, d:16 */

@@ -146,6 +146,60 @@ START:
         MOV.L   ER0,@-ER3
         MOV.L   ER1,@H'FFAD9F:16
         MOV.L   ER1,@H'846DEE:24
+        BAND    #1,R6L
+        BAND    #4,@ER3
+        BAND    #0,@H'FFFF5C:8
+        BCLR    #5,R2H
+        BCLR    #7,@ER0
+        BCLR    #2,@H'FFFFA1:8
+        BCLR    R4L,R7H
+        BCLR    R0H,@ER5
+        BCLR    R6H,@H'FFFF08:8
+        BIAND   #3,R1L
+        BIAND   #6,@ER7
+        BIAND   #0,@H'FFFFE3:8
+        BILD    #7,R5H
+        BILD    #1,@ER2
+        BILD    #4,@H'FFFF97:8
+        BIOR    #2,R0L
+        BIOR    #5,@ER6
+        BIOR    #3,@H'FFFF4E:8
+        BIST    #6,R3H
+        BIST    #0,@ER4
+        BIST    #7,@H'FFFFD2:8
+        BIXOR   #4,R7L
+        BIXOR   #2,@ER1
+        BIXOR   #5,@H'FFFF30:8
+        BLD     #0,R4H
+        BLD     #3,@ER5
+        BLD     #7,@H'FFFF40:8
+        BNOT    #6,R2L
+        BNOT    #1,@ER7
+        BNOT    #4,@H'FFFFBB:8
+        BNOT    R5L,R5L
+        BNOT    R1H,@ER3
+        BNOT    R7L,@H'FFFF6D:8
+        BOR     #7,R0H
+        BOR     #2,@ER4
+        BOR     #6,@H'FFFF19:8
+        BSET    #0,R6H
+        BSET    #3,@ER1
+        BSET    #5,@H'FFFFF4:8
+        BSET    R0L,R3L
+        BSET    R2L,@ER6
+        BSET    R3H,@H'FFFF85:8
+        BST     #1,R1H
+        BST     #4,@ER0
+        BST     #2,@H'FFFFCA:8
+        BTST    #7,R4L
+        BTST    #6,@ER2
+        BTST    #0,@H'FFFF77:8
+        BTST    R0L,R2H
+        BTST    R6L,@ER4
+        BTST    R5H,@H'FFFF23:8
+        BXOR    #3,R7H
+        BXOR    #5,@ER6
+        BXOR    #1,@H'FFFFFE:8
 HEREBRA:
         BRA     HEREBRA:8
         BRA     FINISH:16

@@ -7,11 +7,13 @@ use lib.Dec.{ltb}
 use borrow.Author.Tests.{ltb-true, ltb-false}
 use Rattle.encoder.specs.Names.{Width, Byte, Word, Long, Op, Add, Sub, Cmp, Mov, Addx, Subx, Or, Xor, And, Reg, Imm, By, One, Two, Four, Single}
 use Rattle.encoder.specs.Names.{Not, Neg, Extu, Exts, Half, Place, At, Step, Disp, Abs8, Abs16, Abs24, Reach, Near, Far, Target, ByReg, Direct, Vector}
-use Rattle.encoder.specs.Names.{Instruction, Nop, Stc, LdcReg, Ccr, Alu, IncDec, AddsSubs, Decimal, Shift, Unary, Multiply, Divide, Move, Bcc, Jmp, Bsr, Jsr, Rts}
+use Rattle.encoder.specs.Names.{Instruction, Nop, Stc, LdcReg, Ccr, Alu, IncDec, AddsSubs, Decimal, Shift, Unary, Multiply, Divide, Takes, Gives, Move, Bcc, Jmp, Bsr, Jsr, Rts}
+use Rattle.encoder.specs.Names.{Take, Btst, Bor, Bior, Bxor, Bixor, Band, Biand, Bld, Bild, Give, Bset, Bnot, Bclr, Bst, Bist}
+use Rattle.encoder.specs.Names.{Index, Numbered, ByPart, Spot, InPart, AtEr, AtAbs}
 use Rattle.products.specs.Products.{factorWidth, productWidth}
-use Rattle.codes.specs.Valid.{Digit, Number, IsByte, NotByte, HasReg, HasImm, HasBy, HasUnary, HasPlace, HasReach, HasTarget, Valid}
+use Rattle.codes.specs.Valid.{Digit, Number, IsByte, NotByte, HasReg, HasImm, HasBy, HasUnary, TakesPart, GivesPart, HasIndex, HasSpot, HasPlace, HasReach, HasTarget, Valid}
 use Rattle.encoder.specs.MirrorValid.{digitOk, numberOk, isByte, notByte, hasReg, hasImm, hasBy, hasUnary, hasProduct, hasPlace, hasReach, hasTarget}
-use Rattle.encoder.specs.MirrorValid.{validOf}
+use Rattle.encoder.specs.MirrorValid.{takesPart, givesPart, hasIndex, hasSpot, validOf}
 use mathlib.Core.Bool.{_&&_}
 
 -- the test k says whether P holds
@@ -95,6 +97,38 @@ says-product h s d =
     says2 (Digit (factorWidth h) s) (Digit (productWidth h) d) (digitOk (factorWidth h) s) (digitOk (productWidth h) d)
     (says-digit (factorWidth h) s) (says-digit (productWidth h) d)
 
+says-takes : (take : Take) → Says (takesPart take) (TakesPart take)
+says-takes Btst = tt
+says-takes Bor = λ h. h
+says-takes Bior = λ h. h
+says-takes Bxor = λ h. h
+says-takes Bixor = λ h. h
+says-takes Band = λ h. h
+says-takes Biand = λ h. h
+says-takes Bld = λ h. h
+says-takes Bild = λ h. h
+
+says-gives : (give : Give) → Says (givesPart give) (GivesPart give)
+says-gives Bset = tt
+says-gives Bnot = tt
+says-gives Bclr = tt
+says-gives Bst = λ h. h
+says-gives Bist = λ h. h
+
+says-index : (part : Bool) (P : Type 0) → Says part P → (index : Index) → Says (hasIndex part index) (HasIndex P index)
+says-index part P p (Numbered n) = says< n 8
+says-index part P p (ByPart r) = says2 P (r < 16) part (ltb r 16) p (says< r 16)
+
+says-spot : (spot : Spot) → Says (hasSpot spot) (HasSpot spot)
+says-spot (InPart d) = says< d 16
+says-spot (AtEr e) = says< e 8
+says-spot (AtAbs a) = says< a 0x100
+
+says-bit : (part : Bool) (P : Type 0) → Says part P → (index : Index) (spot : Spot)
+    → Says (hasIndex part index && hasSpot spot) (HasIndex P index × HasSpot spot)
+says-bit part P p index spot =
+    says2 (HasIndex P index) (HasSpot spot) (hasIndex part index) (hasSpot spot) (says-index part P p index) (says-spot spot)
+
 says-place : (w : Width) (p : Place) → Says (hasPlace w p) (HasPlace w p)
 says-place w (At e) = says< e 8
 says-place w (Step e) = says< e 8
@@ -129,6 +163,8 @@ says-valid (Shift turn w r) = says-digit w r
 says-valid (Unary single w r) = says2 (HasUnary single w) (Digit w r) (hasUnary single w) (digitOk w r) (says-unary single w) (says-digit w r)
 says-valid (Multiply sign h s d) = says-product h s d
 says-valid (Divide sign h s d) = says-product h s d
+says-valid (Takes take index spot) = says-bit (takesPart take) (TakesPart take) (says-takes take) index spot
+says-valid (Gives give index spot) = says-bit (givesPart give) (GivesPart give) (says-gives give) index spot
 says-valid (Move dir w p r) = says2 (HasPlace w p) (Digit w r) (hasPlace w p) (digitOk w r) (says-place w p) (says-digit w r)
 says-valid (Bcc c reach) = says2 (c < 16) (HasReach reach) (ltb c 16) (hasReach reach) (says< c 16) (says-reach reach)
 says-valid (Jmp target) = says-target target

@@ -1,15 +1,17 @@
 -- The parts of an instruction, put together, are its code.
-use Prim.Native.Nat.{ℕ, _+_, _/_, _%_, _<_}
-use mathlib.Core.Path.{_≡_, refl}
+use Prim.Native.Nat.{ℕ, _+_, _-_, _/_, _%_, _<_}
+use mathlib.Core.Path.{_≡_, refl, sym, ap, _∙_}
 use mathlib.Core.List.{List, [], _∷_, _++_}
 use native.Mathlib.Omega.{arith}
+use native.Mathlib.Nat.{zero-add}
 use Rattle.encoder.specs.Names.{Width, Byte, Word, Long, Op, Add, Sub, Cmp, Mov, Addx, Subx, Or, Xor, And, Reg, Imm, Turn, Shll, Shlr, Rotxl}
 use Rattle.encoder.specs.Names.{Rotxr, Shal, Shar, Rotl, Rotr, Not, Neg, Extu, Exts, Unsigned, Signed, Dir, Place, At, Step, Disp, Abs8, Abs16, Abs24, Near, Far}
-use Rattle.encoder.specs.Names.{ByReg, Direct, Vector, Instruction, Nop, Stc, LdcReg, Ccr, Alu, IncDec, AddsSubs, Decimal, Shift, Unary, Multiply, Divide, Move}
-use Rattle.encoder.specs.Names.{Bcc, Jmp, Bsr, Jsr, Rts, Prefix, Bare, After01, Tail, NoTail, Tail16, Tail32, Parts}
-use Rattle.codes.specs.Code.{_·_, be16, be24, be32, dirDigit, codeOf}
+use Rattle.encoder.specs.Names.{ByReg, Direct, Vector, Instruction, Nop, Stc, LdcReg, Ccr, Alu, IncDec, AddsSubs, Decimal, Shift, Unary, Multiply, Divide, Takes, Gives, Move}
+use Rattle.encoder.specs.Names.{Bcc, Jmp, Bsr, Jsr, Rts, Prefix, Bare, Behind, Tail, NoTail, Tail16, Tail32, Parts}
+use Rattle.encoder.specs.Names.{Index, Numbered, ByPart, Spot, InPart, AtEr, AtAbs}
+use Rattle.codes.specs.Code.{_·_, be16, be24, be32, dirDigit, takeByte, takeSide, giveByte, giveSide, spotCode, bitCode, codeOf}
 use Rattle.codes.specs.Valid.{HasReg, Valid}
-use Rattle.encoder.specs.MirrorParts.{partsOf}
+use Rattle.encoder.specs.MirrorParts.{spotParts, bitParts, partsOf}
 
 abbrev pub tailBytes : Tail → ℕ → List ℕ
 tailBytes NoTail v = []
@@ -18,7 +20,7 @@ tailBytes Tail32 v = be32 v
 
 abbrev pub prefixed : Prefix → List ℕ → List ℕ
 prefixed Bare s = s
-prefixed (After01 c) s = 0x01 ∷ c ∷ s
+prefixed (Behind x y) s = x ∷ y ∷ s
 
 -- the bytes of the parts
 abbrev pub render : Parts → List ℕ
@@ -83,6 +85,15 @@ shift-bytes Shar w r = refl
 shift-bytes Rotl w r = refl
 shift-bytes Rotr w r = refl
 
+spot-bytes : (lead : ℕ) (spot : Spot) (byte side digit : ℕ) → spotCode lead spot byte (side + digit) ≡ render (spotParts lead spot byte side digit)
+spot-bytes lead (InPart d) byte side digit = refl
+spot-bytes lead (AtEr e) byte side digit = refl
+spot-bytes lead (AtAbs a) byte side digit = refl
+
+bit-bytes : (lead : ℕ) (spot : Spot) (index : Index) (byte side : ℕ) → bitCode lead spot index byte side ≡ render (bitParts lead spot index byte side)
+bit-bytes lead spot (Numbered n) byte side = spot-bytes lead spot byte side n
+bit-bytes lead spot (ByPart r) byte side = ap (spotCode lead spot (byte - 0x10)) (sym (zero-add r)) ∙ spot-bytes lead spot (byte - 0x10) 0 r
+
 move-bytes : (dir : Dir) (w : Width) (p : Place) (r : ℕ) → Valid (Move dir w p r) → codeOf (Move dir w p r) ≡ render (partsOf (Move dir w p r))
 move-bytes dir Byte (At e) r v = refl
 move-bytes dir Byte (Abs8 a) r v = refl
@@ -127,6 +138,8 @@ code-is (Multiply Unsigned h s d) v = refl
 code-is (Multiply Signed h s d) v = refl
 code-is (Divide Unsigned h s d) v = refl
 code-is (Divide Signed h s d) v = refl
+code-is (Takes take index spot) v = bit-bytes 0x7C spot index (takeByte take) (takeSide take)
+code-is (Gives give index spot) v = bit-bytes 0x7D spot index (giveByte give) (giveSide give)
 code-is (Move dir w p r) v = move-bytes dir w p r v
 code-is (Bcc c (Near d)) v = refl
 code-is (Bcc c (Far d)) v = refl

@@ -9,7 +9,7 @@ use lib.Dec.{ltb}
 use lib.ListN.{length, drop}
 use lib.Seq.{sets, sets-eq}
 use borrow.Author.Tests.{ltb-true, ltb-false, le-ltb, lt-ltb}
-use Rattle.encoder.specs.Names.{Instruction, Encoded, Written, NotWritten, NotInstruction, LentTooShort, Prefix, Bare, After01, Tail}
+use Rattle.encoder.specs.Names.{Instruction, Encoded, Written, NotWritten, NotInstruction, LentTooShort, Prefix, Bare, Behind, Tail}
 use Rattle.encoder.specs.Names.{NoTail, Tail16, Tail32, Parts}
 use Rattle.codes.specs.Code.{codeOf, lengthOf}
 use Rattle.codes.specs.Valid.{Valid}
@@ -28,9 +28,9 @@ size-is h = go (h .prefix) (h .tail)
     go Bare NoTail = refl
     go Bare Tail16 = refl
     go Bare Tail32 = refl
-    go (After01 c) NoTail = refl
-    go (After01 c) Tail16 = refl
-    go (After01 c) Tail32 = refl
+    go (Behind x y) NoTail = refl
+    go (Behind x y) Tail16 = refl
+    go (Behind x y) Tail32 = refl
 
 small : {x : ℕ} → x < 256 → x % 256 ≡ x
 small h = mod-eq-of-lt h
@@ -44,9 +44,9 @@ stores h l k = go (h .prefix) (h .tail) k
     go Bare NoTail w = simp (small (w .0), small (w .1 .0))
     go Bare Tail16 w = simp (small (w .0), small (w .1 .0), small (w .1 .1 .0))
     go Bare Tail32 w = simp (small (w .0), small (w .1 .0), small (w .1 .1 .0))
-    go (After01 c) NoTail w = simp (small (w .1 .0), small (w .1 .1 .0), small (w .1 .1 .1 .0))
-    go (After01 c) Tail16 w = simp (small (w .1 .0), small (w .1 .1 .0), small (w .1 .1 .1 .0), small (w .1 .1 .1 .1 .0))
-    go (After01 c) Tail32 w = simp (small (w .1 .0), small (w .1 .1 .0), small (w .1 .1 .1 .0), small (w .1 .1 .1 .1 .0))
+    go (Behind x y) NoTail w = simp (small (w .0), small (w .1 .0), small (w .1 .1 .0), small (w .1 .1 .1 .0))
+    go (Behind x y) Tail16 w = simp (small (w .0), small (w .1 .0), small (w .1 .1 .0), small (w .1 .1 .1 .0), small (w .1 .1 .1 .1 .0))
+    go (Behind x y) Tail32 w = simp (small (w .0), small (w .1 .0), small (w .1 .1 .0), small (w .1 .1 .1 .0), small (w .1 .1 .1 .1 .0))
 
 wrote : (h : Parts) (l : List ℕ) → Bytes (render h) → sizeOf h ≤ length l → writeOf h l ≡ render h ++ drop (length (render h)) l
 wrote h l k f = stores h l k ∙ sets-eq (render h) l 0 (omega (arith, size-is h)) ∙ ap (λ n. render h ++ drop n l) (zero-add (length (render h)))

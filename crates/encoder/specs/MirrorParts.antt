@@ -1,18 +1,21 @@
 -- The parts of a code, case by case as the code of `src/parts.rt` does. Nothing here is to be believed: `proofs/` shows that they are `codeOf`.
-use Prim.Native.Nat.{ℕ, _+_, _/_, _%_}
+use Prim.Native.Nat.{ℕ, _+_, _-_, _/_, _%_}
 use Rattle.encoder.specs.Names.{Width, Byte, Word, Long, Op, Add, Sub, Cmp, Mov, Addx, Subx, Or, Xor, And, Source, Reg, Imm, Way, By, Turn, Shll}
 use Rattle.encoder.specs.Names.{Shlr, Rotxl, Rotxr, Shal, Shar, Rotl, Rotr, Single, Not, Neg, Extu, Exts, Sign, Unsigned, Signed, Dir, Place, At, Step, Disp, Abs8}
 use Rattle.encoder.specs.Names.{Abs16, Abs24, Reach, Near, Far, Target, ByReg, Direct, Vector, Instruction, Nop, Stc, LdcReg, Ccr, Alu, IncDec}
-use Rattle.encoder.specs.Names.{AddsSubs, Decimal, Shift, Unary, Multiply, Divide, Move, Bcc, Jmp, Bsr, Jsr, Rts, Prefix, Bare, After01, Tail, NoTail, Tail16}
-use Rattle.encoder.specs.Names.{Tail32, Parts}
+use Rattle.encoder.specs.Names.{AddsSubs, Decimal, Shift, Unary, Multiply, Divide, Takes, Gives, Move, Bcc, Jmp, Bsr, Jsr, Rts, Prefix, Bare, Behind, Tail, NoTail, Tail16}
+use Rattle.encoder.specs.Names.{Tail32, Parts, Take, Give, Index, Numbered, ByPart, Spot, InPart, AtEr, AtAbs}
 use Rattle.codes.specs.Code.{_·_, changeCode, wayDigit, addsDigit, wordDigit, longDigit, digit013, digit89B, extuDigit, extsDigit, unsignedMultiply, unsignedDivide, firstDigit}
-use Rattle.codes.specs.Code.{nextDigit, dirDigit, abs8Digit}
+use Rattle.codes.specs.Code.{nextDigit, dirDigit, abs8Digit, takeByte, takeSide, giveByte, giveSide}
 
 abbrev pub mk : Prefix → ℕ → ℕ → Tail → ℕ → Parts
 mk prefix a b tail v = record { prefix = prefix; a = a; b = b; tail = tail; v = v }
 
 abbrev pub mk1 : ℕ → ℕ → Parts
 mk1 a b = mk Bare a b NoTail 0
+
+abbrev pub mk2 : ℕ → ℕ → ℕ → ℕ → Parts
+mk2 x y a b = mk (Behind x y) a b NoTail 0
 
 abbrev pub byteCode : Op → ℕ
 byteCode Add = 0x08
@@ -43,9 +46,9 @@ longParts Cmp s d = mk1 0x1F ((8 + s) · d)
 longParts Mov s d = mk1 0x0F ((8 + s) · d)
 longParts Addx s d = mk1 0 0
 longParts Subx s d = mk1 0 0
-longParts Or s d = mk (After01 0xF0) 0x64 (s · d) NoTail 0
-longParts Xor s d = mk (After01 0xF0) 0x65 (s · d) NoTail 0
-longParts And s d = mk (After01 0xF0) 0x66 (s · d) NoTail 0
+longParts Or s d = mk2 0x01 0xF0 0x64 (s · d)
+longParts Xor s d = mk2 0x01 0xF0 0x65 (s · d)
+longParts And s d = mk2 0x01 0xF0 0x66 (s · d)
 
 abbrev pub regParts : Op → Width → ℕ → ℕ → Parts
 regParts op Byte s d = mk1 (byteCode op) (s · d)
@@ -84,7 +87,22 @@ unaryParts Exts w r = mk1 0x17 (extsDigit w · r)
 
 abbrev pub productParts : Sign → ℕ → ℕ → ℕ → Parts
 productParts Unsigned c a b = mk1 a b
-productParts Signed c a b = mk (After01 c) a b NoTail 0
+productParts Signed c a b = mk2 0x01 c a b
+
+abbrev pub spotParts : ℕ → Spot → ℕ → ℕ → ℕ → Parts
+spotParts lead (InPart d) byte side digit = mk1 byte ((side + digit) · d)
+spotParts lead (AtEr e) byte side digit = mk2 lead (e · 0) byte ((side + digit) · 0)
+spotParts lead (AtAbs a) byte side digit = mk2 (lead + 2) a byte ((side + digit) · 0)
+
+abbrev pub bitParts : ℕ → Spot → Index → ℕ → ℕ → Parts
+bitParts lead spot (Numbered n) byte side = spotParts lead spot byte side n
+bitParts lead spot (ByPart r) byte side = spotParts lead spot (byte - 0x10) 0 r
+
+abbrev pub takeParts : Take → Index → Spot → Parts
+takeParts take index spot = bitParts 0x7C spot index (takeByte take) (takeSide take)
+
+abbrev pub giveParts : Give → Index → Spot → Parts
+giveParts give index spot = bitParts 0x7D spot index (giveByte give) (giveSide give)
 
 abbrev pub placeParts : Prefix → ℕ → Dir → Place → ℕ → Parts
 placeParts prefix more dir (At e) r = mk prefix (0x68 + more) ((dirDigit dir + e) · r) NoTail 0
@@ -97,7 +115,7 @@ placeParts prefix more dir (Abs24 a) r = mk prefix (0x6A + more) ((dirDigit dir 
 abbrev pub moveParts : Dir → Width → Place → ℕ → Parts
 moveParts dir Byte p r = placeParts Bare 0 dir p r
 moveParts dir Word p r = placeParts Bare 1 dir p r
-moveParts dir Long p r = placeParts (After01 0x00) 1 dir p r
+moveParts dir Long p r = placeParts (Behind 0x01 0x00) 1 dir p r
 
 abbrev pub bccParts : ℕ → Reach → Parts
 bccParts c (Near d) = mk1 (4 · c) d
@@ -125,6 +143,8 @@ partsOf (Shift turn w r) = shiftParts turn w r
 partsOf (Unary single w r) = unaryParts single w r
 partsOf (Multiply sign h s d) = productParts sign 0xC0 (unsignedMultiply h) (s · d)
 partsOf (Divide sign h s d) = productParts sign 0xD0 (unsignedDivide h) (s · d)
+partsOf (Takes take index spot) = takeParts take index spot
+partsOf (Gives give index spot) = giveParts give index spot
 partsOf (Move dir w p r) = moveParts dir w p r
 partsOf (Bcc c reach) = bccParts c reach
 partsOf (Jmp target) = targetParts 0 target

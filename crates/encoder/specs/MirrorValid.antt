@@ -5,8 +5,10 @@ use lib.Dec.{ltb}
 use Rattle.products.specs.Products.{factorWidth, productWidth}
 use Rattle.encoder.specs.Names.{Width, Byte, Word, Long, Op, Add, Sub, Cmp, Mov, Addx, Subx, Or, Xor, And, Source, Reg, Imm, By, One, Two, Four}
 use Rattle.encoder.specs.Names.{Single, Not, Neg, Extu, Exts, Half, Place, At, Step, Disp, Abs8, Abs16, Abs24, Reach, Near, Far, Target, ByReg, Direct}
-use Rattle.encoder.specs.Names.{Vector, Instruction, Nop, Stc, LdcReg, Ccr, Alu, IncDec, AddsSubs, Decimal, Shift, Unary, Multiply, Divide, Move, Bcc, Jmp, Bsr}
+use Rattle.encoder.specs.Names.{Vector, Instruction, Nop, Stc, LdcReg, Ccr, Alu, IncDec, AddsSubs, Decimal, Shift, Unary, Multiply, Divide, Takes, Gives, Move, Bcc, Jmp, Bsr}
 use Rattle.encoder.specs.Names.{Jsr, Rts}
+use Rattle.encoder.specs.Names.{Take, Btst, Bor, Bior, Bxor, Bixor, Band, Biand, Bld, Bild, Give, Bset, Bnot, Bclr, Bst, Bist}
+use Rattle.encoder.specs.Names.{Index, Numbered, ByPart, Spot, InPart, AtEr, AtAbs}
 use mathlib.Core.Bool.{_&&_}
 
 abbrev pub digitOk : Width → ℕ → Bool
@@ -65,6 +67,33 @@ hasUnary Exts w = notByte w
 abbrev pub hasProduct : Half → ℕ → ℕ → Bool
 hasProduct h s d = digitOk (factorWidth h) s && digitOk (productWidth h) d
 
+abbrev pub takesPart : Take → Bool
+takesPart Btst = true
+takesPart Bor = false
+takesPart Bior = false
+takesPart Bxor = false
+takesPart Bixor = false
+takesPart Band = false
+takesPart Biand = false
+takesPart Bld = false
+takesPart Bild = false
+
+abbrev pub givesPart : Give → Bool
+givesPart Bset = true
+givesPart Bnot = true
+givesPart Bclr = true
+givesPart Bst = false
+givesPart Bist = false
+
+abbrev pub hasIndex : Bool → Index → Bool
+hasIndex part (Numbered n) = ltb n 8
+hasIndex part (ByPart r) = part && ltb r 16
+
+abbrev pub hasSpot : Spot → Bool
+hasSpot (InPart d) = ltb d 16
+hasSpot (AtEr e) = ltb e 8
+hasSpot (AtAbs a) = ltb a 0x100
+
 abbrev pub hasPlace : Width → Place → Bool
 hasPlace w (At e) = ltb e 8
 hasPlace w (Step e) = ltb e 8
@@ -99,6 +128,8 @@ validOf (Shift turn w r) = digitOk w r
 validOf (Unary single w r) = hasUnary single w && digitOk w r
 validOf (Multiply sign h s d) = hasProduct h s d
 validOf (Divide sign h s d) = hasProduct h s d
+validOf (Takes take index spot) = hasIndex (takesPart take) index && hasSpot spot
+validOf (Gives give index spot) = hasIndex (givesPart give) index && hasSpot spot
 validOf (Move dir w p r) = hasPlace w p && digitOk w r
 validOf (Bcc c reach) = ltb c 16 && hasReach reach
 validOf (Jmp target) = hasTarget target

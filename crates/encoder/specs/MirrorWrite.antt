@@ -4,7 +4,7 @@ use mathlib.Core.Bool.{Bool, true, false}
 use mathlib.Core.List.{List}
 use lib.Dec.{ltb}
 use lib.ListN.{length, set}
-use Rattle.encoder.specs.Names.{Encoded, Written, NotWritten, LentTooShort, Prefix, Bare, After01, Tail, NoTail, Tail16, Tail32, Parts}
+use Rattle.encoder.specs.Names.{Encoded, Written, NotWritten, LentTooShort, Prefix, Bare, Behind, Tail, NoTail, Tail16, Tail32, Parts}
 
 abbrev pub set2 : List ℕ → ℕ → ℕ → ℕ → List ℕ
 set2 l at x y = set (set l at (x % 256)) (at + 1) (y % 256)
@@ -14,7 +14,7 @@ set4 l at v = set2 (set2 l at (v / 16777216) (v / 65536)) (at + 2) (v / 256) v
 
 abbrev pub startOf : Prefix → ℕ
 startOf Bare = 0
-startOf (After01 c) = 2
+startOf (Behind x y) = 2
 
 abbrev pub tailSize : Tail → ℕ
 tailSize NoTail = 0
@@ -26,7 +26,7 @@ sizeOf h = startOf (h .prefix) + 2 + tailSize (h .tail)
 
 abbrev pub prefixSet : List ℕ → Prefix → List ℕ
 prefixSet l Bare = l
-prefixSet l (After01 c) = set2 l 0 0x01 c
+prefixSet l (Behind x y) = set2 l 0 x y
 
 abbrev pub tailSet : List ℕ → ℕ → Tail → ℕ → List ℕ
 tailSet l at NoTail v = l

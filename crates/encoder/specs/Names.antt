@@ -17,6 +17,14 @@ pub use Rattle.products.specs.declared.Half.{Half}
 pub use Rattle.products.specs.declared.Half.the-variants.{Eight, Sixteen}
 pub use Rattle.codes.specs.declared.Sign.{Sign}
 pub use Rattle.codes.specs.declared.Sign.the-variants.{Unsigned, Signed}
+pub use Rattle.codes.specs.declared.Take.{Take}
+pub use Rattle.codes.specs.declared.Take.the-variants.{Btst, Bor, Bior, Bxor, Bixor, Band, Biand, Bld, Bild}
+pub use Rattle.codes.specs.declared.Give.{Give}
+pub use Rattle.codes.specs.declared.Give.the-variants.{Bset, Bnot, Bclr, Bst, Bist}
+pub use Rattle.codes.specs.declared.Index.{Index}
+pub use Rattle.codes.specs.declared.Index.the-variants.{Numbered, ByPart}
+pub use Rattle.codes.specs.declared.Spot.{Spot}
+pub use Rattle.codes.specs.declared.Spot.the-variants.{InPart, AtEr, AtAbs}
 pub use Rattle.codes.specs.declared.Change.{Change}
 pub use Rattle.codes.specs.declared.Change.the-variants.{Orc, Xorc, Andc, Ldc}
 pub use Rattle.codes.specs.declared.Dir.{Dir}
@@ -28,7 +36,7 @@ pub use Rattle.codes.specs.declared.Reach.the-variants.{Near, Far}
 pub use Rattle.codes.specs.declared.Target.{Target}
 pub use Rattle.codes.specs.declared.Target.the-variants.{ByReg, Direct, Vector}
 pub use Rattle.codes.specs.declared.Instruction.{Instruction}
-pub use Rattle.codes.specs.declared.Instruction.the-variants.{Nop, Stc, LdcReg, Ccr, Alu, IncDec, AddsSubs, Decimal, Shift, Unary, Multiply, Divide, Move, Bcc, Jmp, Bsr, Jsr, Rts}
+pub use Rattle.codes.specs.declared.Instruction.the-variants.{Nop, Stc, LdcReg, Ccr, Alu, IncDec, AddsSubs, Decimal, Shift, Unary, Multiply, Divide, Takes, Gives, Move, Bcc, Jmp, Bsr, Jsr, Rts}
 pub use Rattle.codes.specs.declared.Goes.{Goes}
 pub use Rattle.codes.specs.declared.Goes.the-variants.{Onward, Branches, Jumps, CallsNear, Calls, Returns}
 pub use Rattle.codes.specs.declared.Decoded.{Decoded}
@@ -39,7 +47,7 @@ pub use Rattle.refusal.specs.declared.Refusal.{Refusal}
 pub use Rattle.refusal.specs.declared.Refusal.the-variants.{UnknownCode, CutShort, NotInstruction, LentTooShort}
 -- and of the encoder's own parts
 pub use Rattle.encoder.specs.declared.parts.Prefix.{Prefix}
-pub use Rattle.encoder.specs.declared.parts.Prefix.the-variants.{Bare, After01}
+pub use Rattle.encoder.specs.declared.parts.Prefix.the-variants.{Bare, Behind}
 pub use Rattle.encoder.specs.declared.parts.Tail.{Tail}
 pub use Rattle.encoder.specs.declared.parts.Tail.the-variants.{NoTail, Tail16, Tail32}
 pub use Rattle.encoder.specs.declared.parts.Parts.{Parts}

@@ -1,13 +1,15 @@
 // The parts of an instruction's code, group by group as in the code list.
 ghost use mathlib.Core.Path.{_≡_};
-ghost use Prim.Native.Nat.{_+_, _<_};
+ghost use Prim.Native.Nat.{_+_, _≤_, _<_};
 ghost use Rattle.codes.specs.Code.{_·_};
-ghost use Rattle.encoder.specs.MirrorParts.{mk, mk1, longParts, regParts, immParts, aluParts, incDecParts, shiftParts, unaryParts, productParts, placeParts, moveParts, bccParts, targetParts, bsrParts, partsOf};
+ghost use Rattle.encoder.specs.MirrorParts.{mk, mk1, mk2, longParts, regParts, immParts, aluParts, incDecParts, shiftParts, unaryParts, productParts, spotParts, bitParts, takeParts, giveParts, placeParts, moveParts, bccParts, targetParts, bsrParts, partsOf};
 use crate::tables;
 use arith::Width;
 use codes::By;
 use codes::Change;
 use codes::Dir;
+use codes::Give;
+use codes::Index;
 use codes::Instruction;
 use codes::Op;
 use codes::Place;
@@ -15,14 +17,16 @@ use codes::Reach;
 use codes::Sign;
 use codes::Single;
 use codes::Source;
+use codes::Spot;
+use codes::Take;
 use codes::Target;
 use codes::Turn;
 use codes::Way;
 
-// What stands before the word: nothing, or 01 and a byte.
+// What stands before the word: nothing, or two bytes.
 pub enum Prefix {
     Bare,
-    After01(u32),
+    Behind(u32, u32),
 }
 
 // What follows the word: nothing, or a number of 16 or of 32 bits.
@@ -60,6 +64,13 @@ fn one(a: u32, b: u32) -> Parts
     made(Prefix::Bare, a, b, Tail::NoTail, 0)
 }
 
+// A code of two words
+fn two(x: u32, y: u32, a: u32, b: u32) -> Parts
+    ensures { λ r. ⌜ r ≡ mk2 x y a b ⌝ }
+{
+    made(Prefix::Behind(x, y), a, b, Tail::NoTail, 0)
+}
+
 fn wide(x: u8) -> u32
     ensures { λ r. ⌜ (r ≡ x) × (r < 256) ⌝ }
 {
@@ -90,9 +101,9 @@ fn long_parts(op: Op, s: u8, d: u8) -> Parts
         Op::Mov => one(0x0F, raised(8, s, d)),
         Op::Addx => one(0, 0),
         Op::Subx => one(0, 0),
-        Op::Or => made(Prefix::After01(0xF0), 0x64, digits(s, d), Tail::NoTail, 0),
-        Op::Xor => made(Prefix::After01(0xF0), 0x65, digits(s, d), Tail::NoTail, 0),
-        Op::And => made(Prefix::After01(0xF0), 0x66, digits(s, d), Tail::NoTail, 0),
+        Op::Or => two(0x01, 0xF0, 0x64, digits(s, d)),
+        Op::Xor => two(0x01, 0xF0, 0x65, digits(s, d)),
+        Op::And => two(0x01, 0xF0, 0x66, digits(s, d)),
     }
 }
 
@@ -185,8 +196,55 @@ fn product_parts(sign: Sign, c: u32, a: u32, b: u32) -> Parts
 {
     match sign {
         Sign::Unsigned => one(a, b),
-        Sign::Signed => made(Prefix::After01(c), a, b, Tail::NoTail, 0),
+        Sign::Signed => two(0x01, c, a, b),
     }
+}
+
+// The word of a bit instruction: alone for a byte register, else behind the one that names the byte in memory, which has rd 0
+fn spot_parts(lead: u8, spot: Spot, byte: u32, side: u8, digit: u8) -> Parts
+    ensures { λ h. ⌜ h ≡ spotParts lead spot byte side digit ⌝ }
+{
+    match spot {
+        Spot::InPart(d) => one(byte, raised(side, digit, d)),
+        Spot::AtEr(e) => two(wide(lead), digits(e, 0), byte, raised(side, digit, 0)),
+        Spot::AtAbs(a) => two(wide(lead) + 2, wide(a), byte, raised(side, digit, 0)),
+    }
+}
+
+// The bit's number with the digit that inverts, or the register's digit and a byte of 10 less
+fn bit_parts(lead: u8, spot: Spot, index: Index, byte: u32, side: u8) -> Parts
+    requires { ⌜ 0x10 ≤ byte ⌝ }
+    ensures { λ h. ⌜ h ≡ bitParts lead spot index byte side ⌝ }
+{
+    match index {
+        Index::Numbered(n) => spot_parts(lead, spot, byte, side, n),
+        Index::ByPart(r) => spot_parts(lead, spot, byte - 0x10, 0, r),
+    }
+}
+
+// 7C stands before one that reads, 7D before one that writes
+fn take_parts(take: Take, index: Index, spot: Spot) -> Parts
+    ensures { λ h. ⌜ h ≡ takeParts take index spot ⌝ }
+{
+    bit_parts(
+        0x7C,
+        spot,
+        index,
+        tables::take_byte(take),
+        tables::take_side(take),
+    )
+}
+
+fn give_parts(give: Give, index: Index, spot: Spot) -> Parts
+    ensures { λ h. ⌜ h ≡ giveParts give index spot ⌝ }
+{
+    bit_parts(
+        0x7D,
+        spot,
+        index,
+        tables::give_byte(give),
+        tables::give_side(give),
+    )
 }
 
 // The first byte for a byte, and 1 more for a word or a long
@@ -228,7 +286,7 @@ fn move_parts(dir: Dir, w: Width, p: Place, r: u8) -> Parts
     match w {
         Width::Byte => place_parts(Prefix::Bare, 0, dir, p, r),
         Width::Word => place_parts(Prefix::Bare, 1, dir, p, r),
-        Width::Long => place_parts(Prefix::After01(0x00), 1, dir, p, r),
+        Width::Long => place_parts(Prefix::Behind(0x01, 0x00), 1, dir, p, r),
     }
 }
 
@@ -296,6 +354,8 @@ pub fn parts_of(i: Instruction) -> Parts
             tables::unsigned_divide(h),
             digits(s, d),
         ),
+        Instruction::Takes(take, index, spot) => take_parts(take, index, spot),
+        Instruction::Gives(give, index, spot) => give_parts(give, index, spot),
         Instruction::Move(dir, w, p, r) => move_parts(dir, w, p, r),
         Instruction::Bcc(c, reach) => bcc_parts(c, reach),
         Instruction::Jmp(target) => target_parts(0, target),

@@ -1,12 +1,15 @@
 // The bytes and digits of the code list's tables, in its order. Where there is no code they have 0.
 ghost use mathlib.Core.Path.{_≡_};
-ghost use Rattle.codes.specs.Code.{changeCode, wayDigit, addsDigit, wordDigit, longDigit, digit013, digit89B, extuDigit, extsDigit, unsignedMultiply, unsignedDivide, firstDigit, nextDigit, dirDigit, abs8Digit};
+ghost use Prim.Native.Nat.{_≤_};
+ghost use Rattle.codes.specs.Code.{changeCode, wayDigit, addsDigit, wordDigit, longDigit, digit013, digit89B, extuDigit, extsDigit, unsignedMultiply, unsignedDivide, takeByte, takeSide, giveByte, giveSide, firstDigit, nextDigit, dirDigit, abs8Digit};
 ghost use Rattle.encoder.specs.MirrorParts.{byteCode, wordCode};
 use arith::Width;
 use codes::By;
 use codes::Change;
 use codes::Dir;
+use codes::Give;
 use codes::Op;
+use codes::Take;
 use codes::Way;
 use products::Half;
 
@@ -179,6 +182,62 @@ pub fn unsigned_divide(h: Half) -> u32
     match h {
         Half::Eight => 0x51,
         Half::Sixteen => 0x53,
+    }
+}
+
+pub fn take_byte(take: Take) -> u32
+    ensures { λ r. ⌜ (r ≡ takeByte take) × (0x10 ≤ r) ⌝ }
+{
+    match take {
+        Take::Btst => 0x73,
+        Take::Bor => 0x74,
+        Take::Bior => 0x74,
+        Take::Bxor => 0x75,
+        Take::Bixor => 0x75,
+        Take::Band => 0x76,
+        Take::Biand => 0x76,
+        Take::Bld => 0x77,
+        Take::Bild => 0x77,
+    }
+}
+
+pub fn take_side(take: Take) -> u8
+    ensures { λ r. ⌜ r ≡ takeSide take ⌝ }
+{
+    match take {
+        Take::Btst => 0,
+        Take::Bor => 0,
+        Take::Bior => 8,
+        Take::Bxor => 0,
+        Take::Bixor => 8,
+        Take::Band => 0,
+        Take::Biand => 8,
+        Take::Bld => 0,
+        Take::Bild => 8,
+    }
+}
+
+pub fn give_byte(give: Give) -> u32
+    ensures { λ r. ⌜ (r ≡ giveByte give) × (0x10 ≤ r) ⌝ }
+{
+    match give {
+        Give::Bset => 0x70,
+        Give::Bnot => 0x71,
+        Give::Bclr => 0x72,
+        Give::Bst => 0x67,
+        Give::Bist => 0x67,
+    }
+}
+
+pub fn give_side(give: Give) -> u8
+    ensures { λ r. ⌜ r ≡ giveSide give ⌝ }
+{
+    match give {
+        Give::Bset => 0,
+        Give::Bnot => 0,
+        Give::Bclr => 0,
+        Give::Bst => 0,
+        Give::Bist => 8,
     }
 }
 

@@ -1,15 +1,19 @@
 // Whether each field of an instruction is in range: document 01's refusal 11. The tests are those of `Valid`, in its order.
 ghost use mathlib.Core.Path.{_≡_};
 ghost use lib.Dec.{ltb};
-ghost use Rattle.encoder.specs.MirrorValid.{digitOk, numberOk, isByte, notByte, hasReg, hasImm, hasBy, hasUnary, hasProduct, hasPlace, hasReach, hasTarget, hasAlu, validOf};
+ghost use Rattle.encoder.specs.MirrorValid.{digitOk, numberOk, isByte, notByte, hasReg, hasImm, hasBy, hasUnary, hasProduct, takesPart, givesPart, hasIndex, hasSpot, hasPlace, hasReach, hasTarget, hasAlu, validOf};
 use arith::Width;
 use codes::By;
+use codes::Give;
+use codes::Index;
 use codes::Instruction;
 use codes::Op;
 use codes::Place;
 use codes::Reach;
 use codes::Single;
 use codes::Source;
+use codes::Spot;
+use codes::Take;
 use codes::Target;
 use products::Half;
 
@@ -131,6 +135,53 @@ fn has_product(h: Half, s: u8, d: u8) -> bool
     digit_ok(products::factor_width(h), s) & digit_ok(products::product_width(h), d)
 }
 
+fn takes_part(take: Take) -> bool
+    ensures { λ k. ⌜ k ≡ takesPart take ⌝ }
+{
+    match take {
+        Take::Btst => true,
+        Take::Bor => false,
+        Take::Bior => false,
+        Take::Bxor => false,
+        Take::Bixor => false,
+        Take::Band => false,
+        Take::Biand => false,
+        Take::Bld => false,
+        Take::Bild => false,
+    }
+}
+
+fn gives_part(give: Give) -> bool
+    ensures { λ k. ⌜ k ≡ givesPart give ⌝ }
+{
+    match give {
+        Give::Bset => true,
+        Give::Bnot => true,
+        Give::Bclr => true,
+        Give::Bst => false,
+        Give::Bist => false,
+    }
+}
+
+fn has_index(part: bool, index: Index) -> bool
+    ensures { λ k. ⌜ k ≡ hasIndex part index ⌝ }
+{
+    match index {
+        Index::Numbered(n) => n < 8,
+        Index::ByPart(r) => part & (r < 16),
+    }
+}
+
+fn has_spot(spot: Spot) -> bool
+    ensures { λ k. ⌜ k ≡ hasSpot spot ⌝ }
+{
+    match spot {
+        Spot::InPart(d) => d < 16,
+        Spot::AtEr(e) => e < 8,
+        Spot::AtAbs(a) => byte_ok(a),
+    }
+}
+
 fn has_place(w: Width, p: Place) -> bool
     ensures { λ k. ⌜ k ≡ hasPlace w p ⌝ }
 {
@@ -188,6 +239,10 @@ pub fn valid(i: Instruction) -> bool
         Instruction::Unary(single, w, r) => has_unary(single, w) & digit_ok(w, r),
         Instruction::Multiply(_, h, s, d) => has_product(h, s, d),
         Instruction::Divide(_, h, s, d) => has_product(h, s, d),
+        Instruction::Takes(take, index, spot) => has_index(takes_part(take), index)
+            & has_spot(spot),
+        Instruction::Gives(give, index, spot) => has_index(gives_part(give), index)
+            & has_spot(spot),
         Instruction::Move(_, w, p, r) => has_place(w, p) & digit_ok(w, r),
         Instruction::Bcc(c, reach) => (c < 16) & has_reach(reach),
         Instruction::Jmp(target) => has_target(target),

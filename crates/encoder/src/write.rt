@@ -31,7 +31,7 @@ fn start_of(prefix: Prefix) -> u8
 {
     match prefix {
         Prefix::Bare => 0,
-        Prefix::After01(_) => 2,
+        Prefix::Behind(_, _) => 2,
     }
 }
 
@@ -59,7 +59,7 @@ fn put_prefix(out: &mut [u8], prefix: Prefix)
 {
     match prefix {
         Prefix::Bare => {}
-        Prefix::After01(c) => put2(out, 0, 0x01, c),
+        Prefix::Behind(x, y) => put2(out, 0, x, y),
     }
 }
 

@@ -3,9 +3,10 @@ use mathlib.Core.Path.{_≡_, refl}
 use Rattle.layout.specs.Names.{Width, Byte, Word, Long, Change, Orc, Xorc, Andc, Ldc, Op, Add, Sub, Cmp, Mov, Addx, Subx, Or, Xor, And, Way, Up}
 use Rattle.layout.specs.Names.{Down, By, One, Two, Four, Turn, Shll, Shlr, Rotxl, Rotxr, Shal, Shar, Rotl, Rotr, Single, Not, Neg, Extu, Exts}
 use Rattle.layout.specs.Names.{Dir, Load, Store, Sign, Unsigned, Signed, Half, Eight, Sixteen}
+use Rattle.layout.specs.Names.{Take, Btst, Bor, Bior, Bxor, Bixor, Band, Biand, Bld, Bild, Give, Bset, Bnot, Bclr, Bst, Bist}
 use Rattle.products.specs.Products.{factorWidth}
-use Rattle.layout.specs.Choices.{widthNumber, changeNumber, opNumber, wayNumber, byNumber, turnNumber, singleNumber, dirNumber, signNumber}
-use Rattle.layout.specs.MirrorChoices.{widthAt, changeAt, opAt, wayAt, byAt, turnAt, singleAt, dirAt, signAt, halfAt}
+use Rattle.layout.specs.Choices.{widthNumber, changeNumber, opNumber, wayNumber, byNumber, turnNumber, singleNumber, dirNumber, signNumber, takeNumber, giveNumber}
+use Rattle.layout.specs.MirrorChoices.{widthAt, changeAt, opAt, wayAt, byAt, turnAt, singleAt, dirAt, signAt, halfAt, takeAt, giveAt}
 
 pub width-back : (w : Width) → widthAt (widthNumber w) ≡ w
 unfolding widthAt
@@ -75,3 +76,23 @@ pub half-back : (h : Half) → halfAt (widthNumber (factorWidth h)) ≡ h
 unfolding halfAt
 half-back Eight = refl
 half-back Sixteen = refl
+
+pub take-back : (take : Take) → takeAt (takeNumber take) ≡ take
+unfolding takeAt
+take-back Btst = refl
+take-back Bor = refl
+take-back Bior = refl
+take-back Bxor = refl
+take-back Bixor = refl
+take-back Band = refl
+take-back Biand = refl
+take-back Bld = refl
+take-back Bild = refl
+
+pub give-back : (give : Give) → giveAt (giveNumber give) ≡ give
+unfolding giveAt
+give-back Bset = refl
+give-back Bnot = refl
+give-back Bclr = refl
+give-back Bst = refl
+give-back Bist = refl

@@ -8,16 +8,17 @@ use lib.Dec.{eqb}
 use lib.ListN.{length, take}
 use borrow.Author.Tests.{eq-eqb, eqb-true}
 use Rattle.layout.specs.Names.{Width, Byte, Word, Long, Source, Reg, Imm, Place, At, Step, Disp, Abs8, Abs16, Abs24, Reach, Near, Far, Target, ByReg, Direct, Vector}
-use Rattle.layout.specs.Names.{Instruction, Nop, Stc, LdcReg, Ccr, Alu, IncDec, AddsSubs, Decimal, Shift, Unary, Multiply, Divide, Move, Bcc, Jmp, Bsr, Jsr, Rts}
+use Rattle.layout.specs.Names.{Instruction, Nop, Stc, LdcReg, Ccr, Alu, IncDec, AddsSubs, Decimal, Shift, Unary, Multiply, Divide, Takes, Gives, Move, Bcc, Jmp, Bsr, Jsr, Rts}
+use Rattle.layout.specs.Names.{Index, Numbered, ByPart, Spot, InPart, AtEr, AtAbs}
 use Rattle.products.specs.Products.{factorWidth, productWidth}
-use Rattle.codes.specs.Valid.{Valid, Digit, HasPlace, HasReach, HasTarget}
+use Rattle.codes.specs.Valid.{Valid, Digit, HasIndex, HasSpot, HasPlace, HasReach, HasTarget}
 use Rattle.layout.specs.declared.rows.Row.{Row}
 use Rattle.layout.specs.declared.rows.Named.{Named}
 use Rattle.layout.specs.declared.rows.Named.the-variants.{Names, NamesNone}
-use Rattle.layout.specs.Rows.{rowOf, sourceRow, placeRow, reachRow, targetRow, seven}
-use Rattle.layout.specs.MirrorRows.{sourceAt, placeAt, reachAt, targetAt, readRow, sameOf, namedOf}
+use Rattle.layout.specs.Rows.{rowOf, sourceRow, placeRow, reachRow, targetRow, indexForm, indexOther, spotForm, spotValue, spotReg, seven}
+use Rattle.layout.specs.MirrorRows.{sourceAt, placeAt, reachAt, targetAt, indexAt, spotAt, readRow, sameOf, namedOf}
 use Rattle.layout.specs.MirrorLent.{rowIn}
-use Rattle.layout.proofs.Backs.{width-back, change-back, op-back, way-back, by-back, turn-back, single-back, dir-back, sign-back, half-back}
+use Rattle.layout.proofs.Backs.{width-back, change-back, op-back, way-back, by-back, turn-back, single-back, dir-back, sign-back, half-back, take-back, give-back}
 
 digit-back : (w : Width) (r : ℕ) → Digit w r → r % 256 ≡ r
 digit-back Byte r h = omega arith
@@ -44,6 +45,17 @@ target-back (ByReg e) h = ap ByReg (omega arith)
 target-back (Direct a) h = refl
 target-back (Vector a) h = ap Vector (omega arith)
 
+index-back : (P : Type 0) (index : Index) → HasIndex P index → indexAt (indexForm index) (indexOther index) ≡ index
+unfolding indexAt
+index-back P (Numbered n) h = ap Numbered (omega arith)
+index-back P (ByPart r) h = ap ByPart (omega arith)
+
+spot-back : (spot : Spot) → HasSpot spot → spotAt (spotForm spot) (spotValue spot) (spotReg spot) ≡ spot
+unfolding spotAt
+spot-back (InPart d) h = ap InPart (omega arith)
+spot-back (AtEr e) h = ap AtEr (omega arith)
+spot-back (AtAbs a) h = ap AtAbs (omega arith)
+
 small : (r : ℕ) → r < 16 → r % 256 ≡ r
 small r h = omega arith
 
@@ -63,6 +75,8 @@ read-back (Shift turn w d) v = rw (turn-back turn, width-back w, digit-back w d 
 read-back (Unary single w d) (h, k) = rw (single-back single, width-back w, digit-back w d k)
 read-back (Multiply sign h s d) (j, k) = rw (sign-back sign, half-back h, digit-back (factorWidth h) s j, digit-back (productWidth h) d k)
 read-back (Divide sign h s d) (j, k) = rw (sign-back sign, half-back h, digit-back (factorWidth h) s j, digit-back (productWidth h) d k)
+read-back (Takes take index spot) (j, k) = rw (take-back take, index-back _ index j, spot-back spot k)
+read-back (Gives give index spot) (j, k) = rw (give-back give, index-back _ index j, spot-back spot k)
 read-back (Move dir w p d) (h, k) = rw (dir-back dir, width-back w, place-back w p h, digit-back w d k)
 read-back (Bcc c reach) (h, k) = rw (small c h, reach-back reach k)
 read-back (Jmp target) v = ap Jmp (target-back target v)

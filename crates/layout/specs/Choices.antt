@@ -3,6 +3,7 @@ use Prim.Native.Nat.{ℕ}
 use Rattle.layout.specs.Names.{Width, Byte, Word, Long, Change, Orc, Xorc, Andc, Ldc, Op, Add, Sub, Cmp, Mov, Addx, Subx, Or, Xor, And, Way, Up}
 use Rattle.layout.specs.Names.{Down, By, One, Two, Four, Turn, Shll, Shlr, Rotxl, Rotxr, Shal, Shar, Rotl, Rotr, Single, Not, Neg, Extu, Exts}
 use Rattle.layout.specs.Names.{Dir, Load, Store, Sign, Unsigned, Signed}
+use Rattle.layout.specs.Names.{Take, Btst, Bor, Bior, Bxor, Bixor, Band, Biand, Bld, Bild, Give, Bset, Bnot, Bclr, Bst, Bist}
 
 -- enum h8_width
 abbrev pub widthNumber : Width → ℕ
@@ -67,3 +68,23 @@ dirNumber Store = 1
 abbrev pub signNumber : Sign → ℕ
 signNumber Unsigned = 0
 signNumber Signed = 1
+
+-- enum h8_take
+abbrev pub takeNumber : Take → ℕ
+takeNumber Btst = 0
+takeNumber Bor = 1
+takeNumber Bior = 2
+takeNumber Bxor = 3
+takeNumber Bixor = 4
+takeNumber Band = 5
+takeNumber Biand = 6
+takeNumber Bld = 7
+takeNumber Bild = 8
+
+-- enum h8_give
+abbrev pub giveNumber : Give → ℕ
+giveNumber Bset = 0
+giveNumber Bnot = 1
+giveNumber Bclr = 2
+giveNumber Bst = 3
+giveNumber Bist = 4

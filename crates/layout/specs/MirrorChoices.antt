@@ -5,6 +5,7 @@ use lib.Dec.{eqb}
 use Rattle.layout.specs.Names.{Width, Byte, Word, Long, Change, Orc, Xorc, Andc, Ldc, Op, Add, Sub, Cmp, Mov, Addx, Subx, Or, Xor, And, Way, Up}
 use Rattle.layout.specs.Names.{Down, By, One, Two, Four, Turn, Shll, Shlr, Rotxl, Rotxr, Shal, Shar, Rotl, Rotr, Single, Not, Neg, Extu, Exts}
 use Rattle.layout.specs.Names.{Dir, Load, Store, Sign, Unsigned, Signed, Half, Eight, Sixteen}
+use Rattle.layout.specs.Names.{Take, Btst, Bor, Bior, Bxor, Bixor, Band, Biand, Bld, Bild, Give, Bset, Bnot, Bclr, Bst, Bist}
 
 unfoldable pub widthAt : ℕ → Width
 widthAt n = cond (eqb n 0) Byte (cond (eqb n 1) Word Long)
@@ -36,3 +37,9 @@ signAt n = cond (eqb n 0) Unsigned Signed
 -- by the width of a factor and a divisor
 unfoldable pub halfAt : ℕ → Half
 halfAt n = cond (eqb n 0) Eight Sixteen
+
+unfoldable pub takeAt : ℕ → Take
+takeAt n = cond (eqb n 0) Btst (cond (eqb n 1) Bor (cond (eqb n 2) Bior (cond (eqb n 3) Bxor (cond (eqb n 4) Bixor (cond (eqb n 5) Band (cond (eqb n 6) Biand (cond (eqb n 7) Bld Bild)))))))
+
+unfoldable pub giveAt : ℕ → Give
+giveAt n = cond (eqb n 0) Bset (cond (eqb n 1) Bnot (cond (eqb n 2) Bclr (cond (eqb n 3) Bst Bist)))

@@ -3,11 +3,12 @@ use Prim.Native.Nat.{ℕ, _%_}
 use mathlib.Core.Bool.{Bool, cond, _&&_}
 use lib.Dec.{eqb}
 use Rattle.layout.specs.Names.{Source, Reg, Imm, Place, At, Step, Disp, Abs8, Abs16, Abs24, Reach, Near, Far, Target, ByReg, Direct, Vector}
-use Rattle.layout.specs.Names.{Instruction, Nop, Stc, LdcReg, Ccr, Alu, IncDec, AddsSubs, Decimal, Shift, Unary, Multiply, Divide, Move, Bcc, Jmp, Bsr, Jsr, Rts}
+use Rattle.layout.specs.Names.{Instruction, Nop, Stc, LdcReg, Ccr, Alu, IncDec, AddsSubs, Decimal, Shift, Unary, Multiply, Divide, Takes, Gives, Move, Bcc, Jmp, Bsr, Jsr, Rts}
+use Rattle.layout.specs.Names.{Index, Numbered, ByPart, Spot, InPart, AtEr, AtAbs}
 use Rattle.layout.specs.declared.rows.Row.{Row}
 use Rattle.layout.specs.declared.rows.Named.{Named}
 use Rattle.layout.specs.declared.rows.Named.the-variants.{Names, NamesNone}
-use Rattle.layout.specs.MirrorChoices.{widthAt, changeAt, opAt, wayAt, byAt, turnAt, singleAt, dirAt, signAt, halfAt}
+use Rattle.layout.specs.MirrorChoices.{widthAt, changeAt, opAt, wayAt, byAt, turnAt, singleAt, dirAt, signAt, halfAt, takeAt, giveAt}
 use Rattle.layout.specs.Rows.{rowOf}
 
 unfoldable pub sourceAt : ℕ → ℕ → ℕ → Source
@@ -28,6 +29,12 @@ reachAt form value = cond (eqb form 0) (Near (value % 256)) (Far (value % 65536)
 unfoldable pub targetAt : ℕ → ℕ → ℕ → Target
 targetAt form other value = cond (eqb form 0) (ByReg (other % 256)) (cond (eqb form 1) (Direct value) (Vector (value % 256)))
 
+unfoldable pub indexAt : ℕ → ℕ → Index
+indexAt width other = cond (eqb width 0) (Numbered (other % 256)) (ByPart (other % 256))
+
+unfoldable pub spotAt : ℕ → ℕ → ℕ → Spot
+spotAt form value reg = cond (eqb form 0) (InPart (reg % 256)) (cond (eqb form 1) (AtEr (reg % 256)) (AtAbs (value % 256)))
+
 unfoldable pub readRow : Row → Instruction
 readRow f =
     cond (eqb (f .kind) 0) Nop
@@ -47,7 +54,9 @@ readRow f =
     (cond (eqb (f .kind) 14) (Jsr (targetAt (f .form) (f .other) (f .value)))
     (cond (eqb (f .kind) 15) Rts
     (cond (eqb (f .kind) 16) (Multiply (signAt (f .which)) (halfAt (f .width)) (f .other % 256) (f .reg % 256))
-    (Divide (signAt (f .which)) (halfAt (f .width)) (f .other % 256) (f .reg % 256))))))))))))))))))
+    (cond (eqb (f .kind) 17) (Divide (signAt (f .which)) (halfAt (f .width)) (f .other % 256) (f .reg % 256))
+    (cond (eqb (f .kind) 18) (Takes (takeAt (f .which)) (indexAt (f .width) (f .other)) (spotAt (f .form) (f .value) (f .reg)))
+    (Gives (giveAt (f .which)) (indexAt (f .width) (f .other)) (spotAt (f .form) (f .value) (f .reg)))))))))))))))))))))
 
 unfoldable pub sameOf : Row → Row → Bool
 sameOf f g =

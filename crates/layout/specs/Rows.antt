@@ -2,13 +2,14 @@
 use Prim.Native.Nat.{ℕ}
 use mathlib.Core.List.{List, [], _∷_, _++_}
 use Rattle.layout.specs.Names.{Source, Reg, Imm, By, Half, Sign, Place, At, Step, Disp, Abs8, Abs16, Abs24, Reach, Near, Far, Target, ByReg, Direct, Vector}
-use Rattle.layout.specs.Names.{Instruction, Nop, Stc, LdcReg, Ccr, Alu, IncDec, AddsSubs, Decimal, Shift, Unary, Multiply, Divide, Move, Bcc, Jmp, Bsr, Jsr, Rts}
+use Rattle.layout.specs.Names.{Instruction, Nop, Stc, LdcReg, Ccr, Alu, IncDec, AddsSubs, Decimal, Shift, Unary, Multiply, Divide, Takes, Gives, Move, Bcc, Jmp, Bsr, Jsr, Rts}
+use Rattle.layout.specs.Names.{Index, Numbered, ByPart, Spot, InPart, AtEr, AtAbs}
 use Rattle.products.specs.Products.{factorWidth}
 use Rattle.codes.specs.Code.{lengthOf}
 use Rattle.codes.specs.States.{statesOf}
 use Rattle.layout.specs.declared.rows.Operand.{Operand}
 use Rattle.layout.specs.declared.rows.Row.{Row}
-use Rattle.layout.specs.Choices.{widthNumber, changeNumber, opNumber, wayNumber, byNumber, turnNumber, singleNumber, dirNumber, signNumber}
+use Rattle.layout.specs.Choices.{widthNumber, changeNumber, opNumber, wayNumber, byNumber, turnNumber, singleNumber, dirNumber, signNumber, takeNumber, giveNumber}
 
 abbrev pub operand : ℕ → ℕ → ℕ → Operand
 operand form other value = record { form = form; other = other; value = value }
@@ -55,6 +56,35 @@ row kind which width o reg = record { kind = kind; which = which; width = width;
 abbrev pub productRow : ℕ → Sign → Half → ℕ → ℕ → Row
 productRow kind sign h s d = row kind (signNumber sign) (widthNumber (factorWidth h)) (sourceRow (Reg s)) d
 
+-- enum h8_index: the bit's number, or the byte register that holds it
+abbrev pub indexForm : Index → ℕ
+indexForm (Numbered n) = 0
+indexForm (ByPart r) = 1
+
+abbrev pub indexOther : Index → ℕ
+indexOther (Numbered n) = n
+indexOther (ByPart r) = r
+
+-- enum h8_spot: the byte register; the address register; or aa:8
+abbrev pub spotForm : Spot → ℕ
+spotForm (InPart d) = 0
+spotForm (AtEr e) = 1
+spotForm (AtAbs a) = 2
+
+abbrev pub spotValue : Spot → ℕ
+spotValue (InPart d) = 0
+spotValue (AtEr e) = 0
+spotValue (AtAbs a) = a
+
+abbrev pub spotReg : Spot → ℕ
+spotReg (InPart d) = d
+spotReg (AtEr e) = e
+spotReg (AtAbs a) = 0
+
+-- the bit instructions: WIDTH has the form of the bit's number and OTHER the number, FORM that of the byte
+abbrev pub bitRow : ℕ → ℕ → Index → Spot → Row
+bitRow kind which index spot = row kind which (indexForm index) (operand (spotForm spot) (indexOther index) (spotValue spot)) (spotReg spot)
+
 unfoldable pub rowOf : Instruction → Row
 rowOf Nop = row 0 0 0 noOperand 0
 rowOf (Stc d) = row 1 0 0 noOperand d
@@ -74,6 +104,8 @@ rowOf (Jsr target) = row 14 0 0 (targetRow target) 0
 rowOf Rts = row 15 0 0 noOperand 0
 rowOf (Multiply sign h s d) = productRow 16 sign h s d
 rowOf (Divide sign h s d) = productRow 17 sign h s d
+rowOf (Takes take index spot) = bitRow 18 (takeNumber take) index spot
+rowOf (Gives give index spot) = bitRow 19 (giveNumber give) index spot
 
 abbrev pub seven : Row → List ℕ
 seven f = f .kind ∷ f .which ∷ f .width ∷ f .form ∷ f .other ∷ f .value ∷ f .reg ∷ []

@@ -1,14 +1,16 @@
 // The choices of an instruction by their numbers in host/h8.h, and back. A number past the last is read as the last: whoever reads compares.
 ghost use mathlib.Core.Path.{_≡_};
-ghost use Rattle.layout.specs.Choices.{widthNumber, changeNumber, opNumber, wayNumber, byNumber, turnNumber, singleNumber, dirNumber, signNumber};
-ghost use Rattle.layout.specs.MirrorChoices.{widthAt, changeAt, opAt, wayAt, byAt, turnAt, singleAt, dirAt, signAt, halfAt};
+ghost use Rattle.layout.specs.Choices.{widthNumber, changeNumber, opNumber, wayNumber, byNumber, turnNumber, singleNumber, dirNumber, signNumber, takeNumber, giveNumber};
+ghost use Rattle.layout.specs.MirrorChoices.{widthAt, changeAt, opAt, wayAt, byAt, turnAt, singleAt, dirAt, signAt, halfAt, takeAt, giveAt};
 use arith::Width;
 use codes::By;
 use codes::Change;
 use codes::Dir;
+use codes::Give;
 use codes::Op;
 use codes::Sign;
 use codes::Single;
+use codes::Take;
 use codes::Turn;
 use codes::Way;
 use products::Half;
@@ -110,6 +112,34 @@ pub fn sign_number(sign: Sign) -> u32
     match sign {
         Sign::Unsigned => 0,
         Sign::Signed => 1,
+    }
+}
+
+pub fn take_number(take: Take) -> u32
+    ensures { λ r. ⌜ r ≡ takeNumber take ⌝ }
+{
+    match take {
+        Take::Btst => 0,
+        Take::Bor => 1,
+        Take::Bior => 2,
+        Take::Bxor => 3,
+        Take::Bixor => 4,
+        Take::Band => 5,
+        Take::Biand => 6,
+        Take::Bld => 7,
+        Take::Bild => 8,
+    }
+}
+
+pub fn give_number(give: Give) -> u32
+    ensures { λ r. ⌜ r ≡ giveNumber give ⌝ }
+{
+    match give {
+        Give::Bset => 0,
+        Give::Bnot => 1,
+        Give::Bclr => 2,
+        Give::Bst => 3,
+        Give::Bist => 4,
     }
 }
 
@@ -220,5 +250,33 @@ pub fn half_at(n: u32) -> Half
     match n {
         0 => Half::Eight,
         _ => Half::Sixteen,
+    }
+}
+
+pub fn take_at(n: u32) -> Take
+    ensures { λ r. ⌜ r ≡ takeAt n ⌝ }
+{
+    match n {
+        0 => Take::Btst,
+        1 => Take::Bor,
+        2 => Take::Bior,
+        3 => Take::Bxor,
+        4 => Take::Bixor,
+        5 => Take::Band,
+        6 => Take::Biand,
+        7 => Take::Bld,
+        _ => Take::Bild,
+    }
+}
+
+pub fn give_at(n: u32) -> Give
+    ensures { λ r. ⌜ r ≡ giveAt n ⌝ }
+{
+    match n {
+        0 => Give::Bset,
+        1 => Give::Bnot,
+        2 => Give::Bclr,
+        3 => Give::Bst,
+        _ => Give::Bist,
     }
 }

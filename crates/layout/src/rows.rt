@@ -2,17 +2,19 @@
 ghost use mathlib.Core.Path.{_≡_};
 ghost use Prim.Native.Nat.{_%_};
 ghost use mathlib.Core.Bool.{cond};
-ghost use Rattle.layout.specs.Rows.{noOperand, sourceRow, byRow, valueRow, placeRow, reachRow, targetRow, row, productRow, rowOf};
-ghost use Rattle.layout.specs.MirrorRows.{sourceAt, placeAt, reachAt, targetAt, readRow, sameOf, namedOf};
+ghost use Rattle.layout.specs.Rows.{noOperand, sourceRow, byRow, valueRow, placeRow, reachRow, targetRow, row, productRow, indexForm, indexOther, spotForm, spotValue, spotReg, bitRow, rowOf};
+ghost use Rattle.layout.specs.MirrorRows.{sourceAt, placeAt, reachAt, targetAt, indexAt, spotAt, readRow, sameOf, namedOf};
 ghost use Rattle.layout.specs.declared.rows.Named.the-variants.{Names, NamesNone};
 use crate::choices;
 use arith::Width;
 use codes::By;
+use codes::Index;
 use codes::Instruction;
 use codes::Place;
 use codes::Reach;
 use codes::Sign;
 use codes::Source;
+use codes::Spot;
 use codes::Target;
 use products::Half;
 
@@ -190,6 +192,69 @@ fn product_row(kind: u32, sign: Sign, h: Half, s: u8, d: u8) -> Row
     )
 }
 
+fn index_form(index: Index) -> u32
+    ensures { λ r. ⌜ r ≡ indexForm index ⌝ }
+{
+    match index {
+        Index::Numbered(_) => 0,
+        Index::ByPart(_) => 1,
+    }
+}
+
+fn index_other(index: Index) -> u32
+    ensures { λ r. ⌜ r ≡ indexOther index ⌝ }
+{
+    match index {
+        Index::Numbered(n) => n as u32,
+        Index::ByPart(r) => r as u32,
+    }
+}
+
+fn spot_form(spot: Spot) -> u32
+    ensures { λ r. ⌜ r ≡ spotForm spot ⌝ }
+{
+    match spot {
+        Spot::InPart(_) => 0,
+        Spot::AtEr(_) => 1,
+        Spot::AtAbs(_) => 2,
+    }
+}
+
+fn spot_value(spot: Spot) -> u32
+    ensures { λ r. ⌜ r ≡ spotValue spot ⌝ }
+{
+    match spot {
+        Spot::InPart(_) => 0,
+        Spot::AtEr(_) => 0,
+        Spot::AtAbs(a) => a as u32,
+    }
+}
+
+fn spot_reg(spot: Spot) -> u32
+    ensures { λ r. ⌜ r ≡ spotReg spot ⌝ }
+{
+    match spot {
+        Spot::InPart(d) => d as u32,
+        Spot::AtEr(e) => e as u32,
+        Spot::AtAbs(_) => 0,
+    }
+}
+
+// The bit instructions: the width is the form of the bit's number.
+fn bit_row(kind: u32, which: u32, index: Index, spot: Spot) -> Row
+    ensures { λ r. ⌜ r ≡ bitRow kind which index spot ⌝ }
+{
+    Row {
+        kind: kind,
+        which: which,
+        width: index_form(index),
+        form: spot_form(spot),
+        other: index_other(index),
+        value: spot_value(spot),
+        reg: spot_reg(spot),
+    }
+}
+
 pub fn row_of(i: Instruction) -> Row
     ensures { λ r. ⌜ r ≡ rowOf i ⌝ }
 {
@@ -254,6 +319,18 @@ pub fn row_of(i: Instruction) -> Row
         Instruction::Rts => made(15, 0, 0, no_operand(), 0),
         Instruction::Multiply(sign, h, s, d) => product_row(16, sign, h, s, d),
         Instruction::Divide(sign, h, s, d) => product_row(17, sign, h, s, d),
+        Instruction::Takes(take, index, spot) => bit_row(
+            18,
+            choices::take_number(take),
+            index,
+            spot,
+        ),
+        Instruction::Gives(give, index, spot) => bit_row(
+            19,
+            choices::give_number(give),
+            index,
+            spot,
+        ),
     }
 }
 
@@ -310,6 +387,25 @@ fn target_at(form: u32, other: u32, value: u32) -> Target
     }
 }
 
+fn index_at(width: u32, other: u32) -> Index
+    ensures { λ r. ⌜ r ≡ indexAt width other ⌝ }
+{
+    match width {
+        0 => Index::Numbered(low8(other)),
+        _ => Index::ByPart(low8(other)),
+    }
+}
+
+fn spot_at(form: u32, value: u32, reg: u32) -> Spot
+    ensures { λ r. ⌜ r ≡ spotAt form value reg ⌝ }
+{
+    match form {
+        0 => Spot::InPart(low8(reg)),
+        1 => Spot::AtEr(low8(reg)),
+        _ => Spot::AtAbs(low8(value)),
+    }
+}
+
 // The only instruction that can have this row.
 fn read_row(f: Row) -> Instruction
     ensures { λ r. ⌜ r ≡ readRow f ⌝ }
@@ -320,6 +416,8 @@ fn read_row(f: Row) -> Instruction
     let by = choices::by_at(f.form);
     let reach = reach_at(f.form, f.value);
     let target = target_at(f.form, f.other, f.value);
+    let index = index_at(f.width, f.other);
+    let spot = spot_at(f.form, f.value, f.reg);
     let d = low8(f.reg);
     match kind {
         0 => Instruction::Nop,
@@ -354,12 +452,14 @@ fn read_row(f: Row) -> Instruction
             low8(f.other),
             d,
         ),
-        _ => Instruction::Divide(
+        17 => Instruction::Divide(
             choices::sign_at(f.which),
             choices::half_at(f.width),
             low8(f.other),
             d,
         ),
+        18 => Instruction::Takes(choices::take_at(f.which), index, spot),
+        _ => Instruction::Gives(choices::give_at(f.which), index, spot),
     }
 }
 

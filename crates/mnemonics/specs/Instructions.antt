@@ -1,12 +1,12 @@
 -- An instruction as the maker's assembler writes it: document 002, section 2.2, the assembler format of each page.
 use Prim.Native.Nat.{ℕ}
 use mathlib.Core.List.{List, _++_}
-use Rattle.mnemonics.specs.Parts.{Width, Byte, Op, Source, Way, By, Turn, Single, Half, Sign, Change, Dir, Load, Store, Place, Reach, Target, Instruction, Nop, Stc, LdcReg, Ccr, Alu, IncDec, AddsSubs, Decimal, Shift, Unary, Multiply, Divide, Move, Bcc, Jmp, Bsr, Jsr, Rts}
+use Rattle.mnemonics.specs.Parts.{Width, Byte, Op, Source, Way, By, Turn, Single, Half, Sign, Change, Dir, Load, Store, Place, Take, Give, Index, Spot, Reach, Target, Instruction, Nop, Stc, LdcReg, Ccr, Alu, IncDec, AddsSubs, Decimal, Shift, Unary, Multiply, Divide, Takes, Gives, Move, Bcc, Jmp, Bsr, Jsr, Rts}
 use Rattle.products.specs.Products.{factorWidth, productWidth}
 use Rattle.flow.specs.Targets.{targetOf}
 use Rattle.text.specs.Lines.{ascii}
-use Rattle.mnemonics.specs.Names.{byteReg, longReg, regOf, markOf, opName, opMark, wayName, multiplyName, divideName, addsName, decimalName, turnName, singleName, changeName, byOf, branchName}
-use Rattle.mnemonics.specs.Operands.{immediateOf, sourceOf, countOf, placeText, reachOf, targetText}
+use Rattle.mnemonics.specs.Names.{byteReg, longReg, regOf, markOf, opName, opMark, wayName, multiplyName, divideName, takeName, giveName, addsName, decimalName, turnName, singleName, changeName, byOf, branchName}
+use Rattle.mnemonics.specs.Operands.{immediateOf, sourceOf, countOf, placeText, indexText, spotText, reachOf, targetText}
 
 abbrev pub stcText : ℕ → List ℕ
 stcText d = ascii "STC.B CCR," ++ byteReg d
@@ -48,6 +48,16 @@ multiplyText sign h s d = multiplyName sign ++ productText h s d
 abbrev pub divideText : Sign → Half → ℕ → ℕ → List ℕ
 divideText sign h s d = divideName sign ++ productText h s d
 
+-- a bit instruction behind its name: the bit's number, then its byte
+abbrev pub bitText : Index → Spot → List ℕ
+bitText index spot = indexText index ++ (ascii "," ++ spotText spot)
+
+abbrev pub takeText : Take → Index → Spot → List ℕ
+takeText take index spot = takeName take ++ bitText index spot
+
+abbrev pub giveText : Give → Index → Spot → List ℕ
+giveText give index spot = giveName give ++ bitText index spot
+
 -- MOV with memory: source, then destination
 abbrev pub loadText : Width → Place → ℕ → List ℕ
 loadText w p d = ascii "MOV" ++ (markOf w ++ (ascii " " ++ (placeText Load p ++ (ascii "," ++ regOf w d))))
@@ -85,6 +95,8 @@ textOf next (Shift turn w d) = shiftText turn w d
 textOf next (Unary single w d) = unaryText single w d
 textOf next (Multiply sign h s d) = multiplyText sign h s d
 textOf next (Divide sign h s d) = divideText sign h s d
+textOf next (Takes take index spot) = takeText take index spot
+textOf next (Gives give index spot) = giveText give index spot
 textOf next (Move dir w p d) = moveText dir w p d
 textOf next (Bcc c reach) = bccText next c reach
 textOf next (Jmp to) = jmpText to

@@ -6,6 +6,7 @@ use mathlib.Core.List.{List, [], _∷_, _++_}
 use lib.Dec.{ltb}
 use lib.ListN.{take, drop}
 use Rattle.mnemonics.specs.Parts.{Sign, Unsigned, Signed, Width, Byte, Word, Long, Op, Add, Sub, Cmp, Mov, Addx, Subx, Or, Xor, And, Way, Up, Down, By, One, Two, Four, Turn, Shll, Shlr, Rotxl, Rotxr, Shal, Shar, Rotl, Rotr, Single, Not, Neg, Extu, Exts, Change, Orc, Xorc, Andc, Ldc}
+use Rattle.mnemonics.specs.Parts.{Take, Btst, Bor, Bior, Bxor, Bixor, Band, Biand, Bld, Bild, Give, Bset, Bnot, Bclr, Bst, Bist}
 use Rattle.text.specs.Lines.{ascii}
 
 -- a byte register is RnH or RnL, a word register Rn or En, a long register ERn (002:1147-1164)
@@ -72,6 +73,26 @@ multiplyName Signed = ascii "MULXS"
 abbrev pub divideName : Sign → List ℕ
 divideName Unsigned = ascii "DIVXU"
 divideName Signed = ascii "DIVXS"
+
+-- the bit instructions are written without a size (002: BTST 1698, BOR 1602, BIOR 1506, BXOR 1725, BIXOR 1542, BAND 1353, BIAND 1468, BLD 1561,
+-- BILD 1487; BSET 1621, BNOT 1580, BCLR 1446, BST 1665, BIST 1525)
+abbrev pub takeName : Take → List ℕ
+takeName Btst = ascii "BTST "
+takeName Bor = ascii "BOR "
+takeName Bior = ascii "BIOR "
+takeName Bxor = ascii "BXOR "
+takeName Bixor = ascii "BIXOR "
+takeName Band = ascii "BAND "
+takeName Biand = ascii "BIAND "
+takeName Bld = ascii "BLD "
+takeName Bild = ascii "BILD "
+
+abbrev pub giveName : Give → List ℕ
+giveName Bset = ascii "BSET "
+giveName Bnot = ascii "BNOT "
+giveName Bclr = ascii "BCLR "
+giveName Bst = ascii "BST "
+giveName Bist = ascii "BIST "
 
 abbrev pub addsName : Way → List ℕ
 addsName Up = ascii "ADDS "

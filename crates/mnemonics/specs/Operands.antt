@@ -3,12 +3,13 @@
 -- after the colon: so the text can be assembled again.
 use Prim.Native.Nat.{ℕ, _+_}
 use mathlib.Core.Bool.{true, cond}
-use mathlib.Core.List.{List, [], _++_}
+use mathlib.Core.List.{List, [], _∷_, _++_}
 use lib.Dec.{ltb}
 use Rattle.mnemonics.specs.Parts.{Width, Byte, Word, Long, By, Source, Reg, Imm, Dir, Load, Store, Place, At, Step, Disp, Abs8, Abs16, Abs24, Reach, Near, Far, Target, ByReg, Direct, Vector}
+use Rattle.mnemonics.specs.Parts.{Index, Numbered, ByPart, Spot, InPart, AtEr, AtAbs}
 use Rattle.text.specs.Lines.{ascii}
 use Rattle.text.specs.Numbers.{hexOf, signedOf}
-use Rattle.mnemonics.specs.Names.{longReg, regOf, byOf}
+use Rattle.mnemonics.specs.Names.{numeralOf, byteReg, longReg, regOf, byOf}
 
 abbrev pub hexBy : Width → ℕ → List ℕ
 hexBy Byte x = hexOf true 2 x
@@ -69,6 +70,20 @@ placeText dir (Disp e d) = dispOf e d
 placeText dir (Abs8 a) = abs8Of a
 placeText dir (Abs16 a) = abs16Of (extended a)
 placeText dir (Abs24 a) = abs24Of a
+
+-- a bit's number: #xx:3, or a byte register
+abbrev pub numberedOf : ℕ → List ℕ
+numberedOf n = ascii "#" ++ (numeralOf n ∷ [])
+
+abbrev pub indexText : Index → List ℕ
+indexText (Numbered n) = numberedOf n
+indexText (ByPart r) = byteReg r
+
+-- the byte that it is in
+abbrev pub spotText : Spot → List ℕ
+spotText (InPart d) = byteReg d
+spotText (AtEr e) = atReg e
+spotText (AtAbs a) = abs8Of a
 
 -- the target of a branch, d:8 or d:16
 abbrev pub reachMark : Reach → List ℕ

@@ -1,13 +1,15 @@
 // An instruction as the maker's assembler writes it.
 ghost use mathlib.Core.List.{_++_};
 ghost use Rattle.text.specs.Lines.{Adds};
-ghost use Rattle.mnemonics.specs.Instructions.{stcText, ldcText, ccrText, aluText, countText, addsText, decimalText, shiftText, unaryText, productText, multiplyText, divideText, loadText, storeText, moveText, bccText, bsrText, jmpText, jsrText, textOf};
+ghost use Rattle.mnemonics.specs.Instructions.{stcText, ldcText, ccrText, aluText, countText, addsText, decimalText, shiftText, unaryText, productText, multiplyText, divideText, bitText, takeText, giveText, loadText, storeText, moveText, bccText, bsrText, jmpText, jsrText, textOf};
 use crate::names;
 use crate::operands;
 use arith::Width;
 use codes::By;
 use codes::Change;
 use codes::Dir;
+use codes::Give;
+use codes::Index;
 use codes::Instruction;
 use codes::Op;
 use codes::Place;
@@ -15,6 +17,8 @@ use codes::Reach;
 use codes::Sign;
 use codes::Single;
 use codes::Source;
+use codes::Spot;
+use codes::Take;
 use codes::Target;
 use codes::Turn;
 use codes::Way;
@@ -125,6 +129,29 @@ fn divide(l: Line, sign: Sign, h: Half, s: u8, d: u8) -> Line
     product(a, h, s, d)
 }
 
+// The bit's number and its byte.
+fn bit(l: Line, index: Index, spot: Spot) -> Line
+    ensures { λ r. ⌜ Adds l (bitText index spot) r ⌝ }
+{
+    let a = operands::index(l, index);
+    let b = bytes(a, b",");
+    operands::spot(b, spot)
+}
+
+fn take(l: Line, take: Take, index: Index, spot: Spot) -> Line
+    ensures { λ r. ⌜ Adds l (takeText take index spot) r ⌝ }
+{
+    let a = names::take_name(l, take);
+    bit(a, index, spot)
+}
+
+fn give(l: Line, give: Give, index: Index, spot: Spot) -> Line
+    ensures { λ r. ⌜ Adds l (giveText give index spot) r ⌝ }
+{
+    let a = names::give_name(l, give);
+    bit(a, index, spot)
+}
+
 fn load(l: Line, w: Width, p: Place, d: u8) -> Line
     ensures { λ r. ⌜ Adds l (loadText w p d) r ⌝ }
 {
@@ -202,6 +229,8 @@ pub fn instruction(l: Line, next: u32, i: Instruction) -> Line
         Instruction::Unary(single, w, d) => unary(l, single, w, d),
         Instruction::Multiply(sign, h, s, d) => multiply(l, sign, h, s, d),
         Instruction::Divide(sign, h, s, d) => divide(l, sign, h, s, d),
+        Instruction::Takes(op, index, spot) => take(l, op, index, spot),
+        Instruction::Gives(op, index, spot) => give(l, op, index, spot),
         Instruction::Move(dir, w, p, d) => moved(l, dir, w, p, d),
         Instruction::Bcc(c, reach) => bcc(l, next, c, reach),
         Instruction::Jmp(to) => jmp(l, to),

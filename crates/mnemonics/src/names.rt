@@ -2,13 +2,15 @@
 ghost use mathlib.Core.Path.{_≡_};
 ghost use mathlib.Core.List.{[], _∷_};
 ghost use Rattle.text.specs.Lines.{Adds};
-ghost use Rattle.mnemonics.specs.Names.{numeralOf, halfOf, letterOfWord, byteReg, wordReg, longReg, regOf, markOf, opName, opMark, wayName, multiplyName, divideName, addsName, decimalName, turnName, singleName, changeName, byOf, branchNames, branchName};
+ghost use Rattle.mnemonics.specs.Names.{numeralOf, halfOf, letterOfWord, byteReg, wordReg, longReg, regOf, markOf, opName, opMark, wayName, multiplyName, divideName, takeName, giveName, addsName, decimalName, turnName, singleName, changeName, byOf, branchNames, branchName};
 use arith::Width;
 use codes::By;
 use codes::Change;
+use codes::Give;
 use codes::Op;
 use codes::Sign;
 use codes::Single;
+use codes::Take;
 use codes::Turn;
 use codes::Way;
 use text::Line;
@@ -33,8 +35,8 @@ fn word_letter(d: u8) -> u8
     if d % 16 < 8 { b'R' } else { b'E' }
 }
 
-// The number of a register.
-fn which(l: Line, d: u8) -> Line
+// The number of a register, or of a bit.
+pub fn which(l: Line, d: u8) -> Line
     ensures { λ r. ⌜ Adds l (numeralOf d ∷ []) r ⌝ }
 {
     put(l, numeral(d))
@@ -152,6 +154,34 @@ pub fn divide_name(l: Line, sign: Sign) -> Line
     match sign {
         Sign::Unsigned => bytes(l, b"DIVXU"),
         Sign::Signed => bytes(l, b"DIVXS"),
+    }
+}
+
+pub fn take_name(l: Line, take: Take) -> Line
+    ensures { λ r. ⌜ Adds l (takeName take) r ⌝ }
+{
+    match take {
+        Take::Btst => bytes(l, b"BTST "),
+        Take::Bor => bytes(l, b"BOR "),
+        Take::Bior => bytes(l, b"BIOR "),
+        Take::Bxor => bytes(l, b"BXOR "),
+        Take::Bixor => bytes(l, b"BIXOR "),
+        Take::Band => bytes(l, b"BAND "),
+        Take::Biand => bytes(l, b"BIAND "),
+        Take::Bld => bytes(l, b"BLD "),
+        Take::Bild => bytes(l, b"BILD "),
+    }
+}
+
+pub fn give_name(l: Line, give: Give) -> Line
+    ensures { λ r. ⌜ Adds l (giveName give) r ⌝ }
+{
+    match give {
+        Give::Bset => bytes(l, b"BSET "),
+        Give::Bnot => bytes(l, b"BNOT "),
+        Give::Bclr => bytes(l, b"BCLR "),
+        Give::Bst => bytes(l, b"BST "),
+        Give::Bist => bytes(l, b"BIST "),
     }
 }
 

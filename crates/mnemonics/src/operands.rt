@@ -3,14 +3,16 @@ ghost use mathlib.Core.Path.{_≡_};
 ghost use Prim.Native.Nat.{_+_};
 ghost use Rattle.text.specs.Lines.{Adds};
 ghost use Rattle.flow.specs.Targets.{targetOf};
-ghost use Rattle.mnemonics.specs.Operands.{hexBy, immediateOf, sourceOf, countOf, addressOf, atReg, upFrom, downTo, stepOf, dispOf, extended, abs8Of, abs16Of, abs24Of, placeText, reachMark, reachOf, vectorOf, targetText};
+ghost use Rattle.mnemonics.specs.Operands.{hexBy, immediateOf, sourceOf, countOf, addressOf, atReg, upFrom, downTo, stepOf, dispOf, extended, abs8Of, abs16Of, abs24Of, placeText, numberedOf, indexText, spotText, reachMark, reachOf, vectorOf, targetText};
 use crate::names;
 use arith::Width;
 use codes::By;
 use codes::Dir;
+use codes::Index;
 use codes::Place;
 use codes::Reach;
 use codes::Source;
+use codes::Spot;
 use codes::Target;
 use text::Line;
 use text::bytes;
@@ -150,6 +152,34 @@ pub fn place(l: Line, dir: Dir, p: Place) -> Line
         Place::Abs8(a) => abs8(l, a),
         Place::Abs16(a) => abs16(l, a),
         Place::Abs24(a) => abs24(l, a),
+    }
+}
+
+fn numbered(l: Line, n: u8) -> Line
+    ensures { λ r. ⌜ Adds l (numberedOf n) r ⌝ }
+{
+    let a = bytes(l, b"#");
+    names::which(a, n)
+}
+
+// A bit's number.
+pub fn index(l: Line, index: Index) -> Line
+    ensures { λ r. ⌜ Adds l (indexText index) r ⌝ }
+{
+    match index {
+        Index::Numbered(n) => numbered(l, n),
+        Index::ByPart(r) => names::byte_reg(l, r),
+    }
+}
+
+// The byte that it is in.
+pub fn spot(l: Line, spot: Spot) -> Line
+    ensures { λ r. ⌜ Adds l (spotText spot) r ⌝ }
+{
+    match spot {
+        Spot::InPart(d) => names::byte_reg(l, d),
+        Spot::AtEr(e) => at_reg(l, e),
+        Spot::AtAbs(a) => abs8(l, a),
     }
 }
 

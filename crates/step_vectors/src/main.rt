@@ -8,7 +8,7 @@ use registers::Condition;
 use registers::Registers;
 
 // A code of each form, with what follows it.
-const CODES: [u64; 185] = [
+const CODES: [u64; 239] = [
     0x0000000000000000, // NOP
     0x0203000000000000, // STC.B CCR,Rd
     0x0303000000000000, // LDC.B Rs,CCR
@@ -194,6 +194,60 @@ const CODES: [u64; 185] = [
     0x01C0522300000000, // MULXS.W Rs,ERd
     0x01D0511D00000000, // DIVXS.B Rs,Rd
     0x01D0533600000000, // DIVXS.W Rs,ERd
+    0x7652000000000000, // BAND #xx:3,Rd
+    0x7C70762000000000, // BAND #xx:3,@ERd
+    0x7EF7762000000000, // BAND #xx:3,@aa:8
+    0x7235000000000000, // BCLR #xx:3,Rd
+    0x7D50721000000000, // BCLR #xx:3,@ERd
+    0x7FFA727000000000, // BCLR #xx:3,@aa:8
+    0x6269000000000000, // BCLR Rn,Rd
+    0x7D60622000000000, // BCLR Rn,@ERd
+    0x7FF162C000000000, // BCLR Rn,@aa:8
+    0x769E000000000000, // BIAND #xx:3,Rd
+    0x7C70768000000000, // BIAND #xx:3,@ERd
+    0x7EF476A000000000, // BIAND #xx:3,@aa:8
+    0x77B9000000000000, // BILD #xx:3,Rd
+    0x7C5077C000000000, // BILD #xx:3,@ERd
+    0x7EF777D000000000, // BILD #xx:3,@aa:8
+    0x74DD000000000000, // BIOR #xx:3,Rd
+    0x7C6074A000000000, // BIOR #xx:3,@ERd
+    0x7EFA74E000000000, // BIOR #xx:3,@aa:8
+    0x6784000000000000, // BIST #xx:3,Rd
+    0x7D7067F000000000, // BIST #xx:3,@ERd
+    0x7FF1679000000000, // BIST #xx:3,@aa:8
+    0x75B0000000000000, // BIXOR #xx:3,Rd
+    0x7C5075D000000000, // BIXOR #xx:3,@ERd
+    0x7EF475D000000000, // BIXOR #xx:3,@aa:8
+    0x771E000000000000, // BLD #xx:3,Rd
+    0x7C60772000000000, // BLD #xx:3,@ERd
+    0x7EF7770000000000, // BLD #xx:3,@aa:8
+    0x716B000000000000, // BNOT #xx:3,Rd
+    0x7D70712000000000, // BNOT #xx:3,@ERd
+    0x7FFA710000000000, // BNOT #xx:3,@aa:8
+    0x6171000000000000, // BNOT Rn,Rd
+    0x7D5061F000000000, // BNOT Rn,@ERd
+    0x7FF161F000000000, // BNOT Rn,@aa:8
+    0x741F000000000000, // BOR #xx:3,Rd
+    0x7C60740000000000, // BOR #xx:3,@ERd
+    0x7EF4740000000000, // BOR #xx:3,@aa:8
+    0x7001000000000000, // BSET #xx:3,Rd
+    0x7D70704000000000, // BSET #xx:3,@ERd
+    0x7FF7703000000000, // BSET #xx:3,@aa:8
+    0x605B000000000000, // BSET Rn,Rd
+    0x7D50603000000000, // BSET Rn,@ERd
+    0x7FFA603000000000, // BSET Rn,@aa:8
+    0x675B000000000000, // BST #xx:3,Rd
+    0x7D60673000000000, // BST #xx:3,@ERd
+    0x7FF1674000000000, // BST #xx:3,@aa:8
+    0x7337000000000000, // BTST #xx:3,Rd
+    0x7C70731000000000, // BTST #xx:3,@ERd
+    0x7EF4736000000000, // BTST #xx:3,@aa:8
+    0x63D0000000000000, // BTST Rn,Rd
+    0x7C50631000000000, // BTST Rn,@ERd
+    0x7EF7639000000000, // BTST Rn,@aa:8
+    0x7538000000000000, // BXOR #xx:3,Rd
+    0x7C60751000000000, // BXOR #xx:3,@ERd
+    0x7EFA756000000000, // BXOR #xx:3,@aa:8
 ];
 
 const EDGES: [u32; 8] = [
@@ -410,12 +464,12 @@ fn state(seed: u32, state: u32) -> Registers {
 
 fn code(form: usize) -> u64 {
     let t = CODES;
-    t[form % 185]
+    t[form % 239]
 }
 
 // The seed tells the form and which of its three states.
 fn every_form() {
-    for seed in 0..555u32 {
+    for seed in 0..717u32 {
         on_board(seed, code((seed / 3) as usize), state(seed, seed % 3));
     }
 }
@@ -833,6 +887,72 @@ fn signed_divisions() {
     );
 }
 
+// BSET behind 7C; a number that no bit has; a code that runs past the end. A bit to be written is read first: 5 before 6; FFFF40; 6 in
+// read-only memory.
+fn bad_bits() {
+    small(
+        b"refusal 3: ",
+        AT,
+        0x7C10700000000000,
+        start(0, 0x00FFEF10, 0, 0, 0),
+    );
+    small(b"refusal 3: ", AT, 0x7080000000000000, start(0, 0, 0, 0, 0));
+    small(b"refusal 4: ", AT, 0x0000000000007D10, start(0, 0, 0, 6, 0));
+    small(
+        b"refusal 5: ",
+        AT,
+        0x7D10700000000000,
+        start(0, 0x00FFEF13, 0, 0, 0xFF),
+    );
+    small(
+        b"refusal 5: ",
+        AT,
+        0x7E40770000000000,
+        start(0, 0, 0, 0, 0xFF),
+    );
+    small(
+        b"refusal 6: ",
+        AT,
+        0x7D10670000000000,
+        start(0, 0x00000005, 0, 0, 0xFF),
+    );
+}
+
+// A byte that has its own bit's number; the number 255; BTST of 1 and of 0; BIST of C.
+fn bits() {
+    small(b"bit: ", AT, 0x6088000000000000, start(0x0A, 0, 0, 0, 0));
+    small(
+        b"bit: ",
+        AT,
+        0x6298000000000000,
+        start(0xFF, 0xFF, 0, 0, 0xFF),
+    );
+    small(
+        b"bit: ",
+        AT,
+        0x7301000000000000,
+        start(0, 0x0100, 0, 0, 0xFF),
+    );
+    small(b"bit: ", AT, 0x7319000000000000, start(0, 0x0001, 0, 0, 0));
+    small(b"bit: ", AT, 0x67F8000000000000, start(0x80, 0, 0, 0, 0x01));
+}
+
+// A bit of read-only memory is read; one at an odd address is written.
+fn bits_in_memory() {
+    small(
+        b"bit: ",
+        AT,
+        0x7C10773000000000,
+        start(0, 0x00000003, 0, 0, 0x01),
+    );
+    small(
+        b"bit: ",
+        AT,
+        0x7D10712000000000,
+        start(0, 0x12FFEF11, 0, 0, 0),
+    );
+}
+
 // The register that goes up or down is also loaded or stored; an odd one.
 fn own_parts() {
     on_board(600, 0x6C08000000000000, start(0x00FFFFFF, 0, 0, 0, 0));
@@ -873,6 +993,9 @@ fn main() {
     multiplications();
     divisions();
     signed_divisions();
+    bad_bits();
+    bits();
+    bits_in_memory();
     own_parts();
     ends_of_memory();
     vector_in_working_memory();

@@ -4,10 +4,10 @@ use Rattle.step_vectors.proofs.every_form.Statement.{statement}
 use Rattle.step_vectors.proofs.every_form.Tie as tie
 
 abbrev Inv-loop : tie.InvT-loop
-Inv-loop seed₀ seed = seed ≤ 555
+Inv-loop seed₀ seed = seed ≤ 717
 
 abbrev μ-loop : tie.MeasureT-loop
-μ-loop seed₀ seed = 555 - seed
+μ-loop seed₀ seed = 717 - seed
 
 pub every-form-spec : {M : Type 1} → statement M
 every-form-spec =

@@ -6,4 +6,4 @@ pub product-parts-spec : {M : Type 1} → statement M
 product-parts-spec =
     tie.close
     (tie.spec (λ c. search needs) (λ c κs. search needs) (λ c. search needs) (λ c κs. search needs)
-    (λ c. simp (c .before .enum-told .given .1, c .one .ensures)) (λ c. simp (c .before .enum-told2 .given .1, c .made .ensures)))
+    (λ c. simp (c .before .enum-told .given .1, c .one .ensures)) (λ c. simp (c .before .enum-told2 .given .1, c .two .ensures)))
