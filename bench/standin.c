@@ -255,6 +255,8 @@ uint32_t h8_step(uint32_t base, const uint8_t *rom, size_t rom_n, uint8_t *ram, 
 uint32_t h8_run(uint32_t base, const uint8_t *rom, size_t rom_n, uint8_t *ram, size_t ram_n,
                 uint32_t *regs, size_t regs_n, uint32_t stop, uint32_t budget, uint64_t *answer, size_t answer_n)
 {
+    uint32_t pc = FAULT == 48 && regs_n >= 10 && regs[H8_PC] < rom_n ? regs[H8_PC] : 0;
+    (void)pc;
     if (FAULT == 18 && budget == 1000001)                                           /* budget taken one too far */
         budget--;
     uint32_t got = plain_run(base, rom, rom_n, ram, ram_n, regs, regs_n, stop, budget, answer, answer_n);
@@ -262,6 +264,8 @@ uint32_t h8_run(uint32_t base, const uint8_t *rom, size_t rom_n, uint8_t *ram, s
         answer[2]++;
     if (FAULT == 20 && answer_n >= 5 && answer[4] == H8_STOPPED && answer[2] == budget)
         answer[4] = H8_SPENT;                                                       /* budget looked at before stop */
+    if (FAULT == 48 && answer_n >= 5 && answer[2] && rom[pc] == 0x7D)               /* a run's first bit in memory has 6 states */
+        answer[3] -= 2;
     return got;
 }
 

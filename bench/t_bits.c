@@ -63,6 +63,33 @@ static void step_alone(const struct state *s)
     count(1);
 }
 
+/* A run of one step from the same state leaves and answers what the step has. */
+static void run_too(const struct state *s)
+{
+    uint32_t answer[3], left[10], *regs;
+    uint8_t left_ram[SMALL], *ram;
+    memcpy(answer, answer_lender.now, sizeof answer);
+    memcpy(left, regs_lender.now, sizeof left);
+    memcpy(left_ram, ram_lender.now, s->ram_n);
+    regs = lend(&regs_lender, 40);
+    ram = lend(&ram_lender, s->ram_n);
+    uint64_t *told = lend(&answer_lender, 40);
+    memcpy(regs, s->regs, 40);
+    memcpy(ram, s->ram, s->ram_n);
+    uint32_t returned = h8_run(s->base, rom_lender.now, s->rom_n, ram, s->ram_n, regs, 10, 0xFFFFFFFF, 1, told, 5);
+    int same = returned == answer[0] && told[0] == answer[0] && told[1] == answer[1] && told[2] == (answer[0] ? 0 : 1)
+        && told[3] == answer[2] && told[4] == (answer[0] ? H8_REFUSED : H8_SPENT);
+    if (!same || memcmp(regs, left, sizeof left) || memcmp(ram, left_ram, s->ram_n) || !guards_stand(&ram_lender)
+        || !guards_stand(&regs_lender) || !guards_stand(&answer_lender)) {
+        fail("a run of one step differs from the step");
+        show_code(s->rom, s->rom_n, s->regs[H8_PC]);
+        show_registers("before", s->regs);
+        show_registers("after, step", left);
+        show_registers("after, run", regs);
+    }
+    count(1);
+}
+
 /* A state for a form, its operand's register or place in working memory, and the register of the number. */
 struct trial {
     struct state s;
@@ -149,6 +176,8 @@ static void all_bits(int form)
             step_alone(&t.s);
             check(&t, n % 8);
         }
+        if (k % 8 == n / 8 % 8)
+            run_too(&t.s);
     }
 }
 
@@ -165,6 +194,7 @@ static void own_number(int form)
         t.s.regs[H8_CONDITION] = k / 4096 ? 0xFF : 0x00;
         step_alone(&t.s);
         check(&t, x % 8);
+        run_too(&t.s);
     }
 }
 
@@ -185,6 +215,7 @@ static void number_in_address(int form)
         t.s.regs[H8_CONDITION] = below(256);
         step_alone(&t.s);
         check(&t, k < 256 ? t.at % 8 : 5);
+        run_too(&t.s);
     }
 }
 
@@ -221,6 +252,7 @@ static void step_at(struct trial *t, uint32_t address)
         t->at = a - t->s.base;
         check(t, n);
     }
+    run_too(&t->s);
 }
 
 static void around_ends(int form)
@@ -304,6 +336,7 @@ static void step_by_hand(const struct done *d)
         show_registers("after", regs);
         show_registers("wanted", wanted);
     }
+    run_too(&s);
     compare_step(&s);
 }
 

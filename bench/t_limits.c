@@ -390,6 +390,12 @@ static const struct far fars[] = {
     {"MOV.B to the last byte of all", "6898", 0, 0xFFFFFF, 0xFF0000, 0, 0},
     {"MOV.L over the last byte of all", "01006990", 0, 0xFFFFFE, 0xFF0000, 6, 0},
     {"MOV.B @aa:8", "38FF", 0, 0, 0xFF0000, 0, 0},
+    {"BNOT of the last byte of all", "7FFF7100", 0, 0, 0xFF0000, 0, 0},
+    {"BSET behind working memory: 5", "7D107000", 0, 0xA0000, 0x90000, 5, 0xA0000},
+    {"BSET of the last byte of code: 6", "7D107000", 0, 524287, 0x90000, 6, 524287},
+    {"BLD of the last byte of code", "7C107700", 0, 524287, 0x90000, 0, 0},
+    {"BIST in the last four bytes", "7D106780", 524284, 0x9FFFF, 0x90000, 0, 0},
+    {"BIST cut short", "7D10", 524286, 0x9FFFF, 0x90000, 4, 524286},
 };
 
 static void far_step(const struct far *f)

@@ -7,7 +7,6 @@ use memory::Board;
 use memory::Got;
 use operate::Deed;
 use registers::Condition;
-ghost use mathlib.Core.Path.{_≡_};
 ghost use Rattle.arith.specs.declared.Width.the-variants.{Byte};
 ghost use Rattle.registers.specs.declared.Registers.{Registers};
 ghost use Rattle.registers.specs.Parts.{partOf, withPart};

@@ -2,19 +2,22 @@
 use Prim.Native.Nat.{ℕ, _≤_}
 use mathlib.Core.Path.{_≡_, refl, sym, ap, ap₂, _∙_, subst}
 use mathlib.Core.Logic.{_⊎_, inl, inr}
-use mathlib.Core.List.{List, _++_}
+use mathlib.Core.Bool.{Bool, true, false}
+use mathlib.Core.List.{List, [], _∷_, _++_}
 use native.Mathlib.Omega.{arith}
-use lib.ListN.{length, take, drop, length-append}
+use lib.ListN.{length, getD, take, drop, length-append}
 use lib.Seq.{take-at}
-use Rattle.decoder.specs.Names.{Instruction, Decoded, Code, NoCode, Refusal, CutShort, Found, Is, Cut, Unlisted, Written}
-use Rattle.decoder.specs.MirrorDecode.{foundOf, placedOf, decodeOf}
+use Rattle.decoder.specs.Names.{Instruction, Decoded, Code, NoCode, Refusal, CutShort, Plan, Whole, Nothing, Found, Is, Cut, Unlisted, Written}
+use Rattle.decoder.specs.MirrorWords.{planOf}
+use Rattle.decoder.specs.MirrorDecode.{finishOf, twoWords, foundOf, placedOf, decodeOf}
 use Rattle.left.specs.Left.{groupIn, leftOut}
 use Rattle.left.specs.Unheld.{unheldOf}
 use Rattle.codes.specs.Code.{codeOf, lengthOf}
 use Rattle.codes.specs.Valid.{Valid}
 use Rattle.codes.specs.Exact.{Bytes, Begins, CutOf, Decodes, accepted, cut-short, unheld, Encodes, written}
 use Rattle.codes.proofs.Laws.{Sized, code-sized}
-use Rattle.decoder.proofs.Complete.{complete, cut}
+use Rattle.decoder.proofs.Complete.{word-only, complete, cut}
+use Rattle.decoder.proofs.Good.{if≡}
 use Rattle.decoder.proofs.Sound.{Sound, sound}
 
 -- two answers that differ
@@ -103,6 +106,31 @@ refused-at place s f e = go (foundOf s) e
     go (Is i n) e = absurd (let z : _≡_ {A = ℕ} 0 1 = cc in omega arith)
     go Cut e = inl (cc)
     go Unlisted e = inr (cc)
+
+-- ---- a word that is a whole code is found
+
+-- a byte that begins two words has no plan of one
+planned-one : {i : Instruction} (a b : ℕ) → planOf a b ≡ Whole i → twoWords a ≡ false
+planned-one {i} a b e =
+    if≡ P a 0x01 (none 0x01 refl) λ n01.
+    if≡ P a 0x7C (none 0x7C refl) λ n7C.
+    if≡ P a 0x7D (none 0x7D refl) λ n7D.
+    if≡ P a 0x7E (none 0x7E refl) λ n7E.
+    if≡ P a 0x7F (none 0x7F refl) λ n7F. refl
+  where
+    P : Bool → Type 0
+    P two = two ≡ false
+
+    differ-plan : (p : Plan) → p ≡ Whole i → p ≡ Nothing → ⊥
+    differ-plan p x y = let z : _≡_ {A = ℕ} 0 1 = cc in omega arith
+
+    none : (k : ℕ) → planOf k b ≡ Nothing → a ≡ k → P true
+    none k n h = absurd (differ-plan (planOf a b) e (ap (λ x. planOf x b) h ∙ n))
+
+pub whole-word : (s : List ℕ) (i : Instruction) → 2 ≤ length s → planOf (getD s 0 0) (getD s 1 0) ≡ Whole i → foundOf s ≡ Is i 2
+whole-word [] i h e = absurd (omega arith)
+whole-word (a ∷ []) i h e = absurd (omega arith)
+whole-word (a ∷ b ∷ t) i h e = word-only a b t (planned-one a b e) ∙ ap (λ p. finishOf p t 2) e
 
 -- ---- the round trip
 

@@ -8,7 +8,7 @@ use native.Mathlib.Omega.{arith}
 use lib.Dec.{ltb}
 use lib.ListN.{length, drop, getD, length-drop}
 use lib.Seq.{getD-drop}
-use borrow.Author.Tests.{lt-leb, ne-eqb}
+use borrow.Author.Tests.{lt-leb}
 use Rattle.codes.specs.States.{statesOf, goesOf}
 use Rattle.codes.specs.declared.Dir.{Dir}
 use Rattle.codes.specs.declared.Dir.the-variants.{Load, Store}
@@ -18,9 +18,9 @@ use Rattle.codes.specs.declared.Reach.the-variants.{Near}
 use Rattle.decoder.specs.declared.plan.Plan.{Plan}
 use Rattle.decoder.specs.declared.plan.Plan.the-variants.{Whole, Lacks, Nothing}
 use Rattle.decoder.specs.declared.whole.Found.{Found}
-use Rattle.decoder.specs.declared.whole.Found.the-variants.{Is}
 use Rattle.decoder.specs.MirrorWords.{pick, planOf}
-use Rattle.decoder.specs.MirrorDecode.{finishOf, foundOf, placedOf}
+use Rattle.decoder.specs.MirrorDecode.{placedOf}
+use Rattle.decoder.proofs.Laws.{whole-word}
 use Rattle.flow.specs.Targets.{nextOf, targetOf}
 use Rattle.paths.specs.declared.Flow.the-variants.{Next}
 use Rattle.listing.specs.Listing.{branchFlow, goesFlow, foundFlow, decodedAt, flowAt}
@@ -38,36 +38,27 @@ either-way s b plan u v = go (ltb b 128)
 plus-zero : (n : ℕ) → n + 0 ≡ n
 plus-zero n = omega arith
 
-found-word : (s : List ℕ) (i : Instruction) → 2 ≤ length s → (getD s 0 0 ≡ 1 → ⊥) → planOf (getD s 0 0) (getD s 1 0) ≡ Whole i → foundOf s ≡ Is i 2
-found-word s i h n e =
-    rw (ne-eqb (length s) 0 (omega (arith, h)), ne-eqb (length s) 1 (omega (arith, h)), ne-eqb (getD s 0 0) 1 n) (ap (λ (q : Plan). finishOf q (drop 2 s) 2) e)
-
 -- the place p has a word, which is the whole code i
 module _ (rom : List ℕ) (p : ℕ) (in-rom : p < length rom) (has-word : 2 ≤ length rom - p) where
-  word-flow : (i : Instruction) → (getD rom p 0 ≡ 1 → ⊥) → planOf (getD rom p 0) (getD rom (p + 1) 0) ≡ Whole i
+  word-flow : (i : Instruction) → planOf (getD rom p 0) (getD rom (p + 1) 0) ≡ Whole i
       → goesFlow p (nextOf p 2) (statesOf i) (goesOf i) ≡ flowAt rom p
   unfolding flowAt foundFlow decodedAt
-  word-flow i n e =
+  word-flow i e =
       let first = getD-drop p rom 0 0 ∙ ap (λ (k : ℕ). getD rom k 0) (plus-zero p) in
       let second = getD-drop p rom 1 0 in
-      let found =
-      found-word (drop p rom) i (subst (λ (k : ℕ). 2 ≤ k) (sym (length-drop p rom)) has-word) (λ z. n (sym first ∙ z)) (ap₂ planOf first second ∙ e) in
+      let found = whole-word (drop p rom) i (subst (λ (k : ℕ). 2 ≤ k) (sym (length-drop p rom)) has-word) (ap₂ planOf first second ∙ e) in
       sym (rw (lt-leb (length rom) p in-rom) (ap (λ (f : Found). foundFlow p (placedOf p f)) found))
 
   pub branch-word : getD rom p 0 / 16 ≡ 4
       → branchFlow (getD rom p 0 % 16) (nextOf p 2) (targetOf (nextOf p 2) (Near (getD rom (p + 1) 0))) 4 ≡ flowAt rom p
   unfolding goesFlow
-  branch-word e =
-      word-flow (Bcc (getD rom p 0 % 16) (Near (getD rom (p + 1) 0))) (λ z. absurd (omega (arith, e, z))) (rw e)
+  branch-word e = word-flow (Bcc (getD rom p 0 % 16) (Near (getD rom (p + 1) 0))) (rw e)
 
   pub told-word : (s : ℕ) → Tells s (planOf (getD rom p 0) (getD rom (p + 1) 0)) → Next (nextOf p 2) s ≡ flowAt rom p
   unfolding goesFlow
   told-word s t = go (planOf (getD rom p 0) (getD rom (p + 1) 0)) refl t
     where
-      one : (a b : ℕ) → a ≡ 1 → Tells s (planOf a b) → ⊥
-      one a b e u = subst (λ (x : ℕ). Tells s (planOf x b)) e u
-
       go : (q : Plan) → planOf (getD rom p 0) (getD rom (p + 1) 0) ≡ q → Tells s q → Next (nextOf p 2) s ≡ flowAt rom p
-      go (Whole i) e u = sym (ap₂ (goesFlow p (nextOf p 2)) (u .1) (u .0)) ∙ word-flow i (λ z. one (getD rom p 0) (getD rom (p + 1) 0) z t) e
+      go (Whole i) e u = sym (ap₂ (goesFlow p (nextOf p 2)) (u .1) (u .0)) ∙ word-flow i e
       go (Lacks q) e u = absurd u
       go Nothing e u = absurd u

@@ -58,6 +58,8 @@ fn found(p: u32, i: Instruction, n: usize) -> Flow
         Instruction::Unary(_, _, _) => onward(next, 2),
         Instruction::Multiply(sign, h, _, _) => onward(next, codes::product_states(sign, h)),
         Instruction::Divide(sign, h, _, _) => onward(next, codes::product_states(sign, h)),
+        Instruction::Takes(_, _, spot) => onward(next, codes::read_bit_states(spot)),
+        Instruction::Gives(_, _, spot) => onward(next, codes::written_bit_states(spot)),
         Instruction::Move(_, w, place, _) => onward(next, codes::move_states(w, place)),
         Instruction::Bcc(c, reach) => match reach {
             Reach::Near(d) => branch(c, next, flow::target(next, Reach::Near(d)), 4),

@@ -1,0 +1,73 @@
+-- What the bit instructions come to as entries. Assumes nothing.
+use Prim.Native.Nat.{ℕ, _%_}
+use mathlib.Core.Path.{_≡_, refl, ap}
+use mathlib.Core.Bool.{Bool, true, false}
+use mathlib.Core.List.{List}
+use lib.Dec.{ltb}
+use Rattle.arith.specs.declared.Width.the-variants.{Byte}
+use Rattle.refusal.specs.declared.Outcome.the-variants.{Done}
+use Rattle.registers.specs.declared.Condition.{Condition}
+use Rattle.registers.specs.declared.Registers.{Registers}
+use Rattle.registers.specs.Lent.{lent}
+use Rattle.registers.specs.Parts.{partOf, withPart}
+use Rattle.memory.specs.declared.Board.{Board}
+use Rattle.operate.specs.declared.Deed.{Deed}
+use Rattle.operate.specs.MirrorLent.{Does, effectIn}
+use Rattle.operate.specs.Results.{Effect}
+use Rattle.moves.specs.Moves.{stepped, addressOf}
+use Rattle.bitwork.specs.Bitwork.{tookOf, gaveOf, takesAt, givesAt, takesOf, givesOf}
+use Rattle.flow.specs.Targets.{nextOf}
+use Rattle.codes.specs.declared.Take.{Take}
+use Rattle.codes.specs.declared.Give.{Give}
+use Rattle.codes.specs.declared.Index.{Index}
+use Rattle.codes.specs.declared.Spot.the-variants.{InPart, AtEr, AtAbs}
+use Rattle.codes.specs.declared.Instruction.{Instruction}
+use Rattle.codes.specs.declared.Instruction.the-variants.{Takes, Gives}
+use Rattle.codes.specs.declared.Decoded.the-variants.{Code}
+use Rattle.step.specs.Follow.{followOf}
+use Rattle.step.specs.Step.{effectOf}
+use Rattle.turns.specs.MirrorTurn.{turn, endedOf, Turns, TurnsOn}
+use Rattle.turns.proofs.Laws.{done-acts, ended-acts}
+use Rattle.entry.specs.Entry.{spotAs}
+use Rattle.bitturns.specs.MirrorBitturns.{addressIn}
+
+-- in a byte register
+module _ (index : Index) (d n pc : ℕ) (er : List ℕ) (f g : Condition) where
+  pub take-turns : (take : Take) → Does (λ (r : Registers). tookOf take index (partOf Byte r d) r) er er f g
+      → Turns (Code (Takes take index (InPart d)) n) er er pc f (turn g (nextOf pc n) 2 Done)
+  unfolding effectOf followOf takesOf
+  take-turns take h b rom ram =
+      done-acts (Takes take index (InPart d)) n (nextOf pc n) er pc f b rom ram (λ (r : Registers). tookOf take index (partOf Byte r d) r) er g refl refl h
+
+  pub give-turns : (give : Give) (er′ : List ℕ) → Does (λ (r : Registers). withPart Byte r d (gaveOf give index (partOf Byte r d) r)) er er′ f g
+      → Turns (Code (Gives give index (InPart d)) n) er er′ pc f (turn g (nextOf pc n) 2 Done)
+  unfolding effectOf followOf givesOf
+  give-turns give er′ h b rom ram =
+      done-acts (Gives give index (InPart d)) n (nextOf pc n) er pc f b rom ram (λ (r : Registers). withPart Byte r d (gaveOf give index (partOf Byte r d) r)) er′ g refl refl h
+
+-- in memory, where the operand s says the byte
+module _ (index : Index) (s n pc : ℕ) (er : List ℕ) (f : Condition) (b : Board) (rom ram : List ℕ) (e : Deed) where
+  abbrev pub Ends : Instruction → List ℕ → ℕ → Type 0
+  Ends i m states = TurnsOn (Code i n) er er pc f b rom ram m (endedOf (e .outcome) (e .condition) (nextOf pc n) states)
+
+  took-ends : (take : Take) (t : Bool) → ltb s 256 ≡ t → effectIn er pc e ≡ takesAt take index (addressIn s er) (lent er pc f) b rom ram
+      → Ends (Takes take index (spotAs s)) ram 6
+  unfolding effectOf followOf takesOf addressOf partOf spotAs addressIn
+  took-ends take true h q =
+      rw h (ended-acts (Takes take index (AtEr (s % 8))) n (nextOf pc n) er pc f b rom ram er ram e refl (ap (λ (x : Effect). stepped x ram) (rw h at q)))
+  took-ends take false h q =
+      rw h (ended-acts (Takes take index (AtAbs (s % 256))) n (nextOf pc n) er pc f b rom ram er ram e refl (ap (λ (x : Effect). stepped x ram) (rw h at q)))
+
+  pub take-ends : (take : Take) → effectIn er pc e ≡ takesAt take index (addressIn s er) (lent er pc f) b rom ram → Ends (Takes take index (spotAs s)) ram 6
+  take-ends take q = took-ends take (ltb s 256) refl q
+
+  gave-ends : (give : Give) (ram′ : List ℕ) (t : Bool) → ltb s 256 ≡ t → stepped (effectIn er pc e) ram′ ≡ givesAt give index (addressIn s er) (lent er pc f) b rom ram
+      → Ends (Gives give index (spotAs s)) ram′ 8
+  unfolding effectOf followOf givesOf addressOf partOf spotAs addressIn
+  gave-ends give ram′ true h q =
+      rw h (ended-acts (Gives give index (AtEr (s % 8))) n (nextOf pc n) er pc f b rom ram er ram′ e refl (rw h at q))
+  gave-ends give ram′ false h q =
+      rw h (ended-acts (Gives give index (AtAbs (s % 256))) n (nextOf pc n) er pc f b rom ram er ram′ e refl (rw h at q))
+
+  pub give-ends : (give : Give) (ram′ : List ℕ) → stepped (effectIn er pc e) ram′ ≡ givesAt give index (addressIn s er) (lent er pc f) b rom ram → Ends (Gives give index (spotAs s)) ram′ 8
+  give-ends give ram′ q = gave-ends give ram′ (ltb s 256) refl q

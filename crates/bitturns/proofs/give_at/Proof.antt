@@ -1,0 +1,13 @@
+use mathlib.Core.Path.{sym}
+use Rattle.entry.specs.Entry.{givenAt}
+use Rattle.bitturns.proofs.Laws.{give-ends}
+use borrow.Author.Needs.{needs}
+use Rattle.bitturns.proofs.give_at.Statement.{statement}
+use Rattle.bitturns.proofs.give_at.Tie as tie
+
+pub give-at-spec : {M : Type 1} → statement M
+unfolding givenAt
+give-at-spec =
+    tie.close
+    (tie.spec (λ c. search needs) (λ c κs. search needs) (λ c. search needs) (λ c κs. search needs) (λ c κs. search needs) (λ c κs. search needs) (λ c κs. search needs) (λ c κs. search needs) (λ c. search needs)
+    (λ c. rw (c .ended .ensures, c .before .next .ensures, sym (c .before .before .before .before .before .before .before .before .index-as .ensures), sym (c .before .before .before .before .before .before .give-as .ensures)) (give-ends _ _ 4 _ _ _ _ _ _ _ _ _ (rw (sym (c .before .before .before .before .before .before .before .address .ensures)) (c .before .before .before .before .give-at .ensures _)))))
