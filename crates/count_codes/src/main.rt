@@ -1,4 +1,4 @@
-// Counts what the decoder makes of every first word, and of every second word after 0100, 01C0, 01D0 and 01F0.
+// Counts what the decoder makes of every first word, and of every second word after 0100, 01C0, 01D0, 01F0, and 7C00 to 7F00.
 ghost use Prim.Native.Nat.{_≤_};
 use codes::Decoded;
 use libc::STDOUT_FILENO;
@@ -30,12 +30,12 @@ fn first_words(wanted: u32) -> u64 {
     n
 }
 
-// Second words after 01 and p that are a code or begin one.
-fn second_words(p: u8) -> u64 {
+// Second words after a and b that are a code or begin one.
+fn second_words(a: u8, b: u8) -> u64 {
     let mut n: u64 = 0;
     let mut w: u32 = 0;
     while w < 65536 {
-        let s = [1, p, (w / 256) as u8, (w % 256) as u8];
+        let s = [a, b, (w / 256) as u8, (w % 256) as u8];
         n += hit(kind(&s) != 3);
         w += 1;
     }
@@ -48,24 +48,22 @@ fn print(text: &[u8], n: u64) {
     io::write_all(STDOUT_FILENO, b"\n");
 }
 
+fn print_after(text: &[u8], a: u8, b: u8) {
+    io::write_all(STDOUT_FILENO, b"second words after ");
+    io::write_all(STDOUT_FILENO, text);
+    print(b" that are or begin a code: ", second_words(a, b));
+}
+
 fn main() {
     print(b"first words that are a whole code: ", first_words(0));
     print(b"first words that begin a longer code: ", first_words(4));
     print(b"first words that begin none: ", first_words(3));
-    print(
-        b"second words after 0100 that are or begin a code: ",
-        second_words(0x00),
-    );
-    print(
-        b"second words after 01C0 that are or begin a code: ",
-        second_words(0xC0),
-    );
-    print(
-        b"second words after 01D0 that are or begin a code: ",
-        second_words(0xD0),
-    );
-    print(
-        b"second words after 01F0 that are or begin a code: ",
-        second_words(0xF0),
-    );
+    print_after(b"0100", 0x01, 0x00);
+    print_after(b"01C0", 0x01, 0xC0);
+    print_after(b"01D0", 0x01, 0xD0);
+    print_after(b"01F0", 0x01, 0xF0);
+    print_after(b"7C00", 0x7C, 0x00);
+    print_after(b"7D00", 0x7D, 0x00);
+    print_after(b"7E00", 0x7E, 0x00);
+    print_after(b"7F00", 0x7F, 0x00);
 }

@@ -4,12 +4,16 @@ use arith::Width;
 use codes::Decoded;
 use codes::Dir;
 use codes::Encoded;
+use codes::Give;
+use codes::Index;
 use codes::Instruction;
 use codes::Op;
 use codes::Place;
 use codes::Reach;
 use codes::Sign;
 use codes::Source;
+use codes::Spot;
+use codes::Take;
 use codes::Target;
 use libc::STDOUT_FILENO;
 use products::Half;
@@ -82,13 +86,12 @@ fn first_words(wanted: u32) -> u64 {
     n
 }
 
-fn second_words(p: u8, wanted: u32) -> u64
-    ensures { λ r. ⌜ r ≤ 65536 ⌝ }
-{
+// Second words after a and b.
+fn second_words(a: u8, b: u8, wanted: u32) -> u64 {
     let mut n: u64 = 0;
     let mut w: u32 = 0;
     while w < 65536 {
-        let s = [1, p, (w / 256) as u8, (w % 256) as u8, 0, 0, 0, 0];
+        let s = [a, b, (w / 256) as u8, (w % 256) as u8, 0, 0, 0, 0];
         n += hit(trip(&s) == wanted);
         w += 1;
     }
@@ -107,33 +110,28 @@ fn refusal(text: &[u8], i: Instruction) {
     print(text, number(encoder::encode(i, &mut out)) as u64);
 }
 
-fn main() {
+fn print_after(text: &[u8], a: u8, b: u8) {
+    io::write_all(STDOUT_FILENO, b"second words after ");
+    io::write_all(STDOUT_FILENO, text);
+    print(b" that encoding gives back: ", second_words(a, b, 1));
+    print(b"and that it does not: ", second_words(a, b, 2));
+}
+
+fn words() {
     print(b"first words that encoding gives back: ", first_words(1));
-    print(b"first words that it does not: ", first_words(2));
-    print(
-        b"second words after 0100 that encoding gives back: ",
-        second_words(0x00, 1),
-    );
-    print(
-        b"second words after 01C0 that encoding gives back: ",
-        second_words(0xC0, 1),
-    );
-    print(
-        b"second words after 01D0 that encoding gives back: ",
-        second_words(0xD0, 1),
-    );
-    print(
-        b"second words after 01F0 that encoding gives back: ",
-        second_words(0xF0, 1),
-    );
-    print(
-        b"second words that it does not: ",
-        second_words(0x00, 2)
-            + second_words(0xC0, 2)
-            + second_words(0xD0, 2)
-            + second_words(0xF0, 2),
-    );
-    refusal(b"STC to register digit 200: ", Instruction::Stc(200));
+    print(b"and that it does not: ", first_words(2));
+    print_after(b"0100", 0x01, 0x00);
+    print_after(b"01C0", 0x01, 0xC0);
+    print_after(b"01D0", 0x01, 0xD0);
+    print_after(b"01F0", 0x01, 0xF0);
+    print_after(b"7C00", 0x7C, 0x00);
+    print_after(b"7D00", 0x7D, 0x00);
+    print_after(b"7E00", 0x7E, 0x00);
+    print_after(b"7F00", 0x7F, 0x00);
+}
+
+// Operations that have no such form.
+fn no_form() {
     refusal(
         b"ADDX of words: ",
         Instruction::Alu(Op::Addx, Width::Word, Source::Reg(0), 0),
@@ -142,6 +140,23 @@ fn main() {
         b"SUB of an immediate byte: ",
         Instruction::Alu(Op::Sub, Width::Byte, Source::Imm(1), 0),
     );
+    refusal(
+        b"MOV.W at aa:8: ",
+        Instruction::Move(Dir::Load, Width::Word, Place::Abs8(0), 0),
+    );
+    refusal(
+        b"BLD by a register's number: ",
+        Instruction::Takes(Take::Bld, Index::ByPart(0), Spot::InPart(0)),
+    );
+    refusal(
+        b"BIST by a register's number: ",
+        Instruction::Gives(Give::Bist, Index::ByPart(0), Spot::AtEr(0)),
+    );
+}
+
+// Numbers that are out of range.
+fn no_number() {
+    refusal(b"STC to register digit 200: ", Instruction::Stc(200));
     refusal(
         b"an immediate byte of 256: ",
         Instruction::Alu(Op::Add, Width::Byte, Source::Imm(256), 0),
@@ -159,8 +174,12 @@ fn main() {
         Instruction::Move(Dir::Load, Width::Long, Place::At(0), 8),
     );
     refusal(
-        b"MOV.W at aa:8: ",
-        Instruction::Move(Dir::Load, Width::Word, Place::Abs8(0), 0),
+        b"BSET of bit 8: ",
+        Instruction::Gives(Give::Bset, Index::Numbered(8), Spot::InPart(0)),
+    );
+    refusal(
+        b"BTST at ER8: ",
+        Instruction::Takes(Take::Btst, Index::Numbered(0), Spot::AtEr(8)),
     );
     refusal(
         b"JMP over 24 bits: ",
@@ -170,6 +189,12 @@ fn main() {
         b"Bcc with condition 16: ",
         Instruction::Bcc(16, Reach::Near(0)),
     );
+}
+
+fn main() {
+    words();
+    no_form();
+    no_number();
     let mut short = [0u8; 7];
     let long = Instruction::Move(Dir::Load, Width::Long, Place::Abs24(0), 0);
     let e = encoder::encode(long, &mut short);

@@ -1,4 +1,4 @@
-use Prim.Native.Nat.{ℕ, _-_, _*_, _≤_}
+use Prim.Native.Nat.{ℕ, _-_, _*_, _/_, _%_, _≤_}
 use mathlib.Core.Path.{_≡_, refl, sym, _∙_, ap}
 use mathlib.Core.Bool.{true, _&&_}
 use mathlib.Core.List.{List}
@@ -7,7 +7,6 @@ use native.Mathlib.Nat.{sub-zero}
 use native.Mathlib.Omega.{arith}
 use lib.ListN.{length}
 use borrow.Author.Needs.{needs}
-use borrow.Author.Tests.{ne-eqb}
 use Rattle.refusal.specs.declared.Outcome.the-variants.{Done}
 use Rattle.registers.specs.Lent.{lent}
 use Rattle.memory.specs.Board.{goodBoard}
@@ -17,7 +16,7 @@ use Rattle.turns.specs.MirrorTurn.{toldIn}
 use Rattle.turns.proofs.Laws.{refused-stays}
 use Rattle.run.specs.MirrorKept.{Keeps}
 use Rattle.run.specs.Run.{runFrom}
-use Rattle.run.proofs.Turns.{outside, by-kind, turn-done, turn-refused, same-registers, same-memory, pc-fits, stops, spent, length-kept, still-good, goes-on, refused}
+use Rattle.run.proofs.Turns.{no-kind, outside, by-kind, turn-done, turn-refused, same-registers, same-memory, pc-fits, stops, spent, length-kept, still-good, goes-on, refused}
 use Rattle.run.proofs.kept.look.Reads as look-reads
 use Rattle.execute.proofs.reg_byte.Reads as reg-byte-reads
 use Rattle.execute.proofs.reg_word.Reads as reg-word-reads
@@ -88,7 +87,7 @@ turned c =
     (⊎-elim (λ w. simp (w .3, w .4, w .5) (by 17 (w .0 .keys18) _ (w .2 .ensures (a .b) (a .rom .now) (s .ram))))
     (⊎-elim (λ w. simp (w .4, w .5, w .6) (by 18 (w .0 .keys19) _ (w .3 .ensures)))
     (⊎-elim (λ w. simp (w .6, w .7, w .8) (by 19 (w .0 .keys20) _ (w .3 .ensures)))
-    (λ w. simp (w .2, w .3, w .4, w .1 .ensures) (by _ refl _ (simp (ne-eqb _ _ (w .0 .rest .0 .0 .0 .0 .0 .0 .0 .0 .0 .0 .0 .0 .0 .0 .0 .0 .0 .0 .0 .1), ne-eqb _ _ (w .0 .rest .0 .0 .0 .0 .0 .0 .0 .0 .0 .0 .0 .0 .0 .0 .0 .0 .0 .0 .1), ne-eqb _ _ (w .0 .rest .0 .0 .0 .0 .0 .0 .0 .0 .0 .0 .0 .0 .0 .0 .0 .0 .0 .1), ne-eqb _ _ (w .0 .rest .0 .0 .0 .0 .0 .0 .0 .0 .0 .0 .0 .0 .0 .0 .0 .0 .1), ne-eqb _ _ (w .0 .rest .0 .0 .0 .0 .0 .0 .0 .0 .0 .0 .0 .0 .0 .0 .0 .1), ne-eqb _ _ (w .0 .rest .0 .0 .0 .0 .0 .0 .0 .0 .0 .0 .0 .0 .0 .0 .1), ne-eqb _ _ (w .0 .rest .0 .0 .0 .0 .0 .0 .0 .0 .0 .0 .0 .0 .0 .1), ne-eqb _ _ (w .0 .rest .0 .0 .0 .0 .0 .0 .0 .0 .0 .0 .0 .0 .1), ne-eqb _ _ (w .0 .rest .0 .0 .0 .0 .0 .0 .0 .0 .0 .0 .0 .1), ne-eqb _ _ (w .0 .rest .0 .0 .0 .0 .0 .0 .0 .0 .0 .0 .1), ne-eqb _ _ (w .0 .rest .0 .0 .0 .0 .0 .0 .0 .0 .0 .1), ne-eqb _ _ (w .0 .rest .0 .0 .0 .0 .0 .0 .0 .0 .1), ne-eqb _ _ (w .0 .rest .0 .0 .0 .0 .0 .0 .0 .1), ne-eqb _ _ (w .0 .rest .0 .0 .0 .0 .0 .0 .1), ne-eqb _ _ (w .0 .rest .0 .0 .0 .0 .0 .1), ne-eqb _ _ (w .0 .rest .0 .0 .0 .0 .1), ne-eqb _ _ (w .0 .rest .0 .0 .0 .1), ne-eqb _ _ (w .0 .rest .0 .0 .1), ne-eqb _ _ (w .0 .rest .0 .1), ne-eqb _ _ (w .0 .rest .1), refused-stays)))))))))))))))))))))))
+    (λ w. simp (w .2, w .3, w .4, w .1 .ensures) (by _ refl _ (simp (no-kind (s .pc) (e .result / 16 % 32) (e .result % 16) (e .result / 512) (w .0 .rest .0 .0 .0 .0 .0 .0 .0 .0 .0 .0 .0 .0 .0 .0 .0 .0 .0 .0 .0 .1) (w .0 .rest .0 .0 .0 .0 .0 .0 .0 .0 .0 .0 .0 .0 .0 .0 .0 .0 .0 .0 .1) (w .0 .rest .0 .0 .0 .0 .0 .0 .0 .0 .0 .0 .0 .0 .0 .0 .0 .0 .0 .1) (w .0 .rest .0 .0 .0 .0 .0 .0 .0 .0 .0 .0 .0 .0 .0 .0 .0 .0 .1) (w .0 .rest .0 .0 .0 .0 .0 .0 .0 .0 .0 .0 .0 .0 .0 .0 .0 .1) (w .0 .rest .0 .0 .0 .0 .0 .0 .0 .0 .0 .0 .0 .0 .0 .0 .1) (w .0 .rest .0 .0 .0 .0 .0 .0 .0 .0 .0 .0 .0 .0 .0 .1) (w .0 .rest .0 .0 .0 .0 .0 .0 .0 .0 .0 .0 .0 .0 .1) (w .0 .rest .0 .0 .0 .0 .0 .0 .0 .0 .0 .0 .0 .1) (w .0 .rest .0 .0 .0 .0 .0 .0 .0 .0 .0 .0 .1) (w .0 .rest .0 .0 .0 .0 .0 .0 .0 .0 .0 .1) (w .0 .rest .0 .0 .0 .0 .0 .0 .0 .0 .1) (w .0 .rest .0 .0 .0 .0 .0 .0 .0 .1) (w .0 .rest .0 .0 .0 .0 .0 .0 .1) (w .0 .rest .0 .0 .0 .0 .0 .1) (w .0 .rest .0 .0 .0 .0 .1) (w .0 .rest .0 .0 .0 .1) (w .0 .rest .0 .0 .1) (w .0 .rest .0 .1) (w .0 .rest .1), refused-stays)))))))))))))))))))))))
     (c .match .came)
 
 pub repeat-spec : {M : Type 1} → statement M
@@ -114,7 +113,7 @@ repeat-spec =
       search needs,
       length-kept (a .b) (a .rom .now) (a .stop) (s .ram) r (s .steps) (s .states) (s .inv .5) n (m .match .ram) e refl ∙ s .inv .1,
       omega (arith, s .inv .2, m .before .before .before .before .before .before .if2 .left),
-      search needs,
+      omega (arith, s .inv .3),
       sym (goes-on (a .b) (a .rom .now) (a .stop) (s .ram) r (s .steps) (s .states) (s .inv .5) n (m .match .ram) e (a .budget) (m .before .before .before .before .before .before .before .if1 .left) (s .inv .2) (m .before .before .before .before .before .before .if2 .left) refl) ∙ s .inv .4,
       still-good (a .b) (a .rom .now) (a .stop) (s .ram) r (s .steps) (s .states) (s .inv .5) n (m .match .ram) e refl,
       m .before .before .before .look .ensures .1,
