@@ -343,7 +343,8 @@ fn named_spot(a: u8, b: u8) -> Spot
     }
 }
 
-// Behind 7C and 7E a bit is read, behind 7D and 7F it is written.
+// Behind 7C and 7E a bit is read, behind 7D and 7F it is written. The two tables are asked in one place for all four, where the
+// compiler puts them in, and no plan goes through memory.
 fn bit_word(a: u8, c: u8, d: u8, spot: Spot) -> Plan
     ensures { λ r. ⌜ r ≡ bitWord a c d spot ⌝ }
 {
