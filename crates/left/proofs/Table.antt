@@ -1,11 +1,11 @@
 -- How a row of the table is gone through, byte by byte.
-use Prim.Native.Nat.{ℕ, zero, suc, _+_, _-_, _*_, _≤_, _<_}
+use Prim.Native.Nat.{ℕ, zero, suc, _+_, _-_, _%_, _≤_, _<_}
 use mathlib.Core.Path.{_≡_, refl}
 use mathlib.Core.Bool.{Bool, true, false, _&&_, not}
 use mathlib.Core.List.{List, [], _∷_}
 use native.Mathlib.Omega.{arith}
 use lib.Dec.{ltb}
-use lib.ListN.{getD, length, drop, length-drop}
+use lib.ListN.{getD, length, drop}
 use lib.Seq.{drop-cons}
 use borrow.Author.Tests.{ltb-true, ltb-false, not-true}
 use Rattle.left.specs.Left.{Pattern, fits, agrees, Row, row, groupIn}
@@ -15,13 +15,11 @@ nothing-left : (c : List Pattern) → agrees c [] ≡ true
 nothing-left [] = refl
 nothing-left (p ∷ c) = refl
 
--- no pair is left
-few : (n : ℕ) (t : List ℕ) → length t < 2 → patternsIn n t ≡ []
+-- no pattern is left
+few : (n : ℕ) → patternsIn n [] ≡ []
 unfolding patternsIn
-few zero t l = refl
-few (suc n) [] l = refl
-few (suc n) (a ∷ []) l = refl
-few (suc n) (a ∷ b ∷ t) l = absurd (omega arith)
+few zero = refl
+few (suc n) = refl
 
 past : {A : Type 0} (k : ℕ) (s : List A) → length s ≤ k → drop k s ≡ []
 past zero [] l = refl
@@ -36,22 +34,20 @@ not-false false e = let z : _≡_ {A = ℕ} 0 1 = cc in absurd (omega arith)
 module _ (r s : List ℕ) (n j : ℕ) where
   -- what is left of the row and of the bytes after j of them
   abbrev pub rest : ℕ → Bool
-  rest k = agrees (patternsIn (n - k) (drop (2 + 2 * k) r)) (drop k s)
+  rest k = agrees (patternsIn (n - k) (drop (2 + k) r)) (drop k s)
 
-  pub one-more : j < n → j < length s → 3 + 2 * j < length r
-      → rest j ≡ fits (between (getD r (2 + 2 * j) 0) (getD r (3 + 2 * j) 0)) (getD s j 0) && rest (j + 1)
+  pub one-more : j < n → j < length s → 2 + j < length r → rest j ≡ fits (between (getD r (2 + j) 0)) (getD s j 0) && rest (j + 1)
   unfolding patternsIn
   one-more a b c =
       let e : n - j ≡ suc (n - (j + 1)) = omega arith in
-      let f : 2 + 2 * (j + 1) ≡ suc (3 + 2 * j) = omega arith in
-      let g : suc (2 + 2 * j) ≡ 3 + 2 * j = omega arith in
+      let f : 2 + (j + 1) ≡ suc (2 + j) = omega arith in
       let i : j + 1 ≡ suc j = omega arith in
-      rw (e, f, i, drop-cons r (2 + 2 * j) 0 (omega arith), g, drop-cons r (3 + 2 * j) 0 (omega arith), drop-cons s j 0 b)
+      rw (e, f, i, drop-cons r (2 + j) 0 c, drop-cons s j 0 b)
 
   -- a byte was compared, and f says whether it fits
-  module _ (l : (j < n) × (j < length s) × (3 + 2 * j < length r)) (a b x : ℕ) (ea : a ≡ getD r (2 + 2 * j) 0) (eb : b ≡ getD r (3 + 2 * j) 0) (ex : x ≡ getD s j 0) (f : Bool) (ef : f ≡ fits (between a b) x) where
+  module _ (l : (j < n) × (j < length s) × (2 + j < length r)) (b x : ℕ) (eb : b ≡ getD r (2 + j) 0) (ex : x ≡ getD s j 0) (f : Bool) (ef : f ≡ fits (between b) x) where
     same : rest j ≡ f && rest (j + 1)
-    same = rw (ef, ea, eb, ex) (one-more (l .0) (l .1) (l .2))
+    same = rw (ef, eb, ex) (one-more (l .0) (l .1) (l .2))
 
     pub differs : not f ≡ true → rest j ≡ false
     differs e = rw (same, not-true f e)
@@ -59,14 +55,14 @@ module _ (r s : List ℕ) (n j : ℕ) where
     pub goes-on : not f ≡ false → rest j ≡ rest (j + 1)
     goes-on e = rw (same, not-false f e)
 
-  pub all-gone : ltb j n && ltb j (length s) && ltb (3 + 2 * j) (length r) ≡ false → rest j ≡ true
+  pub all-gone : ltb j n && ltb j (length s) && ltb (2 + j) (length r) ≡ false → rest j ≡ true
   unfolding patternsIn
-  all-gone e = by (ltb j n) (ltb j (length s)) (ltb (3 + 2 * j) (length r)) refl refl refl e
+  all-gone e = by (ltb j n) (ltb j (length s)) (ltb (2 + j) (length r)) refl refl refl e
     where
-      by : (p q t : Bool) → ltb j n ≡ p → ltb j (length s) ≡ q → ltb (3 + 2 * j) (length r) ≡ t → p && q && t ≡ false → rest j ≡ true
+      by : (p q t : Bool) → ltb j n ≡ p → ltb j (length s) ≡ q → ltb (2 + j) (length r) ≡ t → p && q && t ≡ false → rest j ≡ true
       by false q t a b c e = let z : n - j ≡ zero = omega (arith, ltb-false j n a) in rw z
       by true false t a b c e = rw (past j s (ltb-false j (length s) b), nothing-left)
-      by true true false a b c e = rw (few (n - j) (drop (2 + 2 * j) r) (omega (arith, length-drop (2 + 2 * j) r, ltb-false (3 + 2 * j) (length r) c)))
+      by true true false a b c e = rw (past (2 + j) r (ltb-false (2 + j) (length r) c), few (n - j))
       by true true true a b c e = let z : _≡_ {A = ℕ} 0 1 = cc in absurd (omega arith)
 
 pub tests : (a b c d e f : ℕ) → ltb a b && ltb c d && ltb e f ≡ true → (a < b) × (c < d) × (e < f)
@@ -80,7 +76,7 @@ tests a b c d e f h = by (ltb a b) (ltb c d) (ltb e f) refl refl refl h
 
 -- the row agrees, or the search goes on after it
 module _ (t : List (List ℕ)) (k : ℕ) (s : List ℕ) where
-  pub found : k < length t → agrees (codeIn (getD t k [])) s ≡ true → groupIn (rowsIn (drop k t)) s ≡ getD (getD t k []) 0 0
+  pub found : k < length t → agrees (codeIn (getD t k [])) s ≡ true → groupIn (rowsIn (drop k t)) s ≡ getD (getD t k []) 0 0 % 256
   unfolding groupIn rowsIn
   found l f = rw (drop-cons t k [] l, f)
 

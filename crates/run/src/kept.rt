@@ -23,7 +23,8 @@ fn entry_at(rom: &[u8], at: usize) -> u64
     requires { ⌜ at < length (now rom) ⌝ }
     ensures { λ e. ⌜ Means (now (rom .entry)) at e × (e < 17592186044416) ⌝ }
 {
-    entry_of(decoder::whole::begins(&rom[at..]), &rom[at..])
+    let s = &rom[at..];
+    entry_of(decoder::whole::begins(s), s)
 }
 
 fn line(lines: &[u64], i: usize) -> u64

@@ -19,10 +19,12 @@ pub find-spec : {M : Type 1} → statement M
 find-spec =
     tie.close
     (tie.spec Inv-loop μ-loop (λ c. (search needs, refl)) (λ c. search needs) (λ c. search needs) (λ c κs. search needs) (λ c. search needs)
+    (λ c κs. search needs)
     (λ c.
-    let l = c .before .before .before .before .before in
+    let d = c .before in
+    let l = d .before .before .before .before .before in
     let a = l .before .before .args in
-    sym (found (a .t .now) (l .loop .k) (a .s .now) (c .before .before .before .before .loop-test .taken) (sym (c .before .row-agrees .ensures) ∙ c .if1 .taken)) ∙ l .loop .inv .1)
+    c .low .ensures ∙ sym (found (a .t .now) (l .loop .k) (a .s .now) (d .before .before .before .before .loop-test .taken) (sym (d .before .row-agrees .ensures) ∙ d .if1 .taken)) ∙ l .loop .inv .1)
     (λ c. search needs)
     (λ c. search needs)
     (λ c.
