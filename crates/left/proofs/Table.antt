@@ -1,5 +1,5 @@
 -- How a row of the table is gone through, byte by byte.
-use Prim.Native.Nat.{ℕ, zero, suc, _+_, _-_, _%_, _≤_, _<_}
+use Prim.Native.Nat.{ℕ, zero, suc, _+_, _-_, _*_, _%_, _≤_, _<_}
 use mathlib.Core.Path.{_≡_, refl}
 use mathlib.Core.Bool.{Bool, true, false, _&&_, not}
 use mathlib.Core.List.{List, [], _∷_}
@@ -15,12 +15,6 @@ nothing-left : (c : List Pattern) → agrees c [] ≡ true
 nothing-left [] = refl
 nothing-left (p ∷ c) = refl
 
--- no pattern is left
-few : (n : ℕ) → patternsIn n [] ≡ []
-unfolding patternsIn
-few zero = refl
-few (suc n) = refl
-
 past : {A : Type 0} (k : ℕ) (s : List A) → length s ≤ k → drop k s ≡ []
 past zero [] l = refl
 past zero (x ∷ s) l = absurd (omega arith)
@@ -31,48 +25,46 @@ not-false : (t : Bool) → not t ≡ false → t ≡ true
 not-false true e = refl
 not-false false e = let z : _≡_ {A = ℕ} 0 1 = cc in absurd (omega arith)
 
-module _ (r s : List ℕ) (n j : ℕ) where
-  -- what is left of the row and of the bytes after j of them
-  abbrev pub rest : ℕ → Bool
-  rest k = agrees (patternsIn (n - k) (drop (2 + k) r)) (drop k s)
+-- what is left of a code, of which a and b have the next byte above, and of the bytes after j of them
+module _ (s : List ℕ) (n j a b : ℕ) where
+  abbrev pub rest : ℕ → ℕ → ℕ → Bool
+  rest k c d = agrees (patternsIn (n - k) c d) (drop k s)
 
-  pub one-more : j < n → j < length s → 2 + j < length r → rest j ≡ fits (between (getD r (2 + j) 0)) (getD s j 0) && rest (j + 1)
+  pub one-more : j < n → j < length s
+      → rest j a b ≡ fits (between a b) (getD s j 0) && rest (j + 1) (a % 72057594037927936 * 256) (b % 72057594037927936 * 256 + 255)
   unfolding patternsIn
-  one-more a b c =
+  one-more l m =
       let e : n - j ≡ suc (n - (j + 1)) = omega arith in
-      let f : 2 + (j + 1) ≡ suc (2 + j) = omega arith in
       let i : j + 1 ≡ suc j = omega arith in
-      rw (e, f, i, drop-cons r (2 + j) 0 c, drop-cons s j 0 b)
+      rw (e, i, drop-cons s j 0 m)
 
   -- a byte was compared, and f says whether it fits
-  module _ (l : (j < n) × (j < length s) × (2 + j < length r)) (b x : ℕ) (eb : b ≡ getD r (2 + j) 0) (ex : x ≡ getD s j 0) (f : Bool) (ef : f ≡ fits (between b) x) where
-    same : rest j ≡ f && rest (j + 1)
-    same = rw (ef, eb, ex) (one-more (l .0) (l .1) (l .2))
+  module _ (l : (j < n) × (j < length s)) (x : ℕ) (ex : x ≡ getD s j 0) (f : Bool) (ef : f ≡ fits (between a b) x) where
+    same : rest j a b ≡ f && rest (j + 1) (a % 72057594037927936 * 256) (b % 72057594037927936 * 256 + 255)
+    same = rw (ef, ex) (one-more (l .0) (l .1))
 
-    pub differs : not f ≡ true → rest j ≡ false
+    pub differs : not f ≡ true → rest j a b ≡ false
     differs e = rw (same, not-true f e)
 
-    pub goes-on : not f ≡ false → rest j ≡ rest (j + 1)
+    pub goes-on : not f ≡ false → rest j a b ≡ rest (j + 1) (a % 72057594037927936 * 256) (b % 72057594037927936 * 256 + 255)
     goes-on e = rw (same, not-false f e)
 
-  pub all-gone : ltb j n && ltb j (length s) && ltb (2 + j) (length r) ≡ false → rest j ≡ true
+  pub all-gone : ltb j n && ltb j (length s) ≡ false → rest j a b ≡ true
   unfolding patternsIn
-  all-gone e = by (ltb j n) (ltb j (length s)) (ltb (2 + j) (length r)) refl refl refl e
+  all-gone e = by (ltb j n) (ltb j (length s)) refl refl e
     where
-      by : (p q t : Bool) → ltb j n ≡ p → ltb j (length s) ≡ q → ltb (2 + j) (length r) ≡ t → p && q && t ≡ false → rest j ≡ true
-      by false q t a b c e = let z : n - j ≡ zero = omega (arith, ltb-false j n a) in rw z
-      by true false t a b c e = rw (past j s (ltb-false j (length s) b), nothing-left)
-      by true true false a b c e = rw (past (2 + j) r (ltb-false (2 + j) (length r) c), few (n - j))
-      by true true true a b c e = let z : _≡_ {A = ℕ} 0 1 = cc in absurd (omega arith)
+      by : (p q : Bool) → ltb j n ≡ p → ltb j (length s) ≡ q → p && q ≡ false → rest j a b ≡ true
+      by false q f g e = let z : n - j ≡ zero = omega (arith, ltb-false j n f) in rw z
+      by true false f g e = rw (past j s (ltb-false j (length s) g), nothing-left)
+      by true true f g e = let z : _≡_ {A = ℕ} 0 1 = cc in absurd (omega arith)
 
-pub tests : (a b c d e f : ℕ) → ltb a b && ltb c d && ltb e f ≡ true → (a < b) × (c < d) × (e < f)
-tests a b c d e f h = by (ltb a b) (ltb c d) (ltb e f) refl refl refl h
+pub tests : (a b c d : ℕ) → ltb a b && ltb c d ≡ true → (a < b) × (c < d)
+tests a b c d h = by (ltb a b) (ltb c d) refl refl h
   where
-    by : (p q t : Bool) → ltb a b ≡ p → ltb c d ≡ q → ltb e f ≡ t → p && q && t ≡ true → (a < b) × (c < d) × (e < f)
-    by true true true x y z w = (ltb-true a b x, ltb-true c d y, ltb-true e f z)
-    by true true false x y z w = let u : _≡_ {A = ℕ} 0 1 = cc in absurd (omega arith)
-    by true false t x y z w = let u : _≡_ {A = ℕ} 0 1 = cc in absurd (omega arith)
-    by false q t x y z w = let u : _≡_ {A = ℕ} 0 1 = cc in absurd (omega arith)
+    by : (p q : Bool) → ltb a b ≡ p → ltb c d ≡ q → p && q ≡ true → (a < b) × (c < d)
+    by true true x y w = (ltb-true a b x, ltb-true c d y)
+    by true false x y w = let u : _≡_ {A = ℕ} 0 1 = cc in absurd (omega arith)
+    by false q x y w = let u : _≡_ {A = ℕ} 0 1 = cc in absurd (omega arith)
 
 -- the row agrees, or the search goes on after it
 module _ (t : List (List ℕ)) (k : ℕ) (s : List ℕ) where

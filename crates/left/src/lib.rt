@@ -5,225 +5,47 @@ ghost use Prim.Native.Nat.{_%_, _<_};
 ghost use lib.ListN.{getD};
 ghost use Rattle.left.specs.Left.{fits, agrees, groupIn, leftOut};
 ghost use Rattle.left.specs.Unheld.{unheldOf};
-ghost use Rattle.left.specs.MirrorTable.{between, codeIn, rowsIn};
+ghost use Rattle.left.specs.MirrorTable.{between, patternsIn, rowsIn};
 
-// A row is the group, the number of bytes, and for each byte two numbers in one: its least digits, and behind them its most.
-const ROWS: [[u16; 12]; 25] = [
-    [
-        3,
-        8,
-        0x7878,
-        0x0070,
-        0x6A6A,
-        0x202F,
-        0x0000,
-        0x00FF,
-        0x00FF,
-        0x00FF,
-        0,
-        0,
-    ],
-    [
-        3,
-        8,
-        0x7878,
-        0x0070,
-        0x6A6A,
-        0xA0AF,
-        0x0000,
-        0x00FF,
-        0x00FF,
-        0x00FF,
-        0,
-        0,
-    ],
-    [
-        3,
-        8,
-        0x7878,
-        0x0070,
-        0x6B6B,
-        0x202F,
-        0x0000,
-        0x00FF,
-        0x00FF,
-        0x00FF,
-        0,
-        0,
-    ],
-    [
-        3,
-        8,
-        0x7878,
-        0x0070,
-        0x6B6B,
-        0xA0AF,
-        0x0000,
-        0x00FF,
-        0x00FF,
-        0x00FF,
-        0,
-        0,
-    ],
-    [
-        3,
-        10,
-        0x0101,
-        0x0000,
-        0x7878,
-        0x0070,
-        0x6B6B,
-        0x2027,
-        0x0000,
-        0x00FF,
-        0x00FF,
-        0x00FF,
-    ],
-    [
-        3,
-        10,
-        0x0101,
-        0x0000,
-        0x7878,
-        0x80F0,
-        0x6B6B,
-        0xA0A7,
-        0x0000,
-        0x00FF,
-        0x00FF,
-        0x00FF,
-    ],
-    [4, 4, 0x0101, 0x4040, 0x6969, 0x0070, 0, 0, 0, 0, 0, 0],
-    [
-        4,
-        6,
-        0x0101,
-        0x4040,
-        0x6F6F,
-        0x0070,
-        0x00FF,
-        0x00FF,
-        0,
-        0,
-        0,
-        0,
-    ],
-    [
-        4,
-        10,
-        0x0101,
-        0x4040,
-        0x7878,
-        0x0070,
-        0x6B6B,
-        0x2020,
-        0x0000,
-        0x00FF,
-        0x00FF,
-        0x00FF,
-    ],
-    [4, 4, 0x0101, 0x4040, 0x6D6D, 0x0070, 0, 0, 0, 0, 0, 0],
-    [
-        4,
-        6,
-        0x0101,
-        0x4040,
-        0x6B6B,
-        0x0000,
-        0x00FF,
-        0x00FF,
-        0,
-        0,
-        0,
-        0,
-    ],
-    [
-        4,
-        8,
-        0x0101,
-        0x4040,
-        0x6B6B,
-        0x2020,
-        0x0000,
-        0x00FF,
-        0x00FF,
-        0x00FF,
-        0,
-        0,
-    ],
-    [4, 4, 0x0101, 0x4040, 0x6969, 0x80F0, 0, 0, 0, 0, 0, 0],
-    [
-        4,
-        6,
-        0x0101,
-        0x4040,
-        0x6F6F,
-        0x80F0,
-        0x00FF,
-        0x00FF,
-        0,
-        0,
-        0,
-        0,
-    ],
-    [
-        4,
-        10,
-        0x0101,
-        0x4040,
-        0x7878,
-        0x0070,
-        0x6B6B,
-        0xA0A0,
-        0x0000,
-        0x00FF,
-        0x00FF,
-        0x00FF,
-    ],
-    [4, 4, 0x0101, 0x4040, 0x6D6D, 0x80F0, 0, 0, 0, 0, 0, 0],
-    [
-        4,
-        6,
-        0x0101,
-        0x4040,
-        0x6B6B,
-        0x8080,
-        0x00FF,
-        0x00FF,
-        0,
-        0,
-        0,
-        0,
-    ],
-    [
-        4,
-        8,
-        0x0101,
-        0x4040,
-        0x6B6B,
-        0xA0A0,
-        0x0000,
-        0x00FF,
-        0x00FF,
-        0x00FF,
-        0,
-        0,
-    ],
-    [5, 4, 0x7B7B, 0x5C5C, 0x5959, 0x8F8F, 0, 0, 0, 0, 0, 0],
-    [5, 4, 0x7B7B, 0xD4D4, 0x5959, 0x8F8F, 0, 0, 0, 0, 0, 0],
-    [6, 2, 0x5656, 0x7070, 0, 0, 0, 0, 0, 0, 0, 0],
-    [6, 2, 0x0101, 0x8080, 0, 0, 0, 0, 0, 0, 0, 0],
-    [6, 2, 0x5757, 0x0030, 0, 0, 0, 0, 0, 0, 0, 0],
-    [7, 4, 0x6A6A, 0x404F, 0x00FF, 0x00FF, 0, 0, 0, 0, 0, 0],
-    [7, 4, 0x6A6A, 0xC0CF, 0x00FF, 0x00FF, 0, 0, 0, 0, 0, 0],
+// A row is the group, the number of bytes, and the least and the most that the digits of the first eight can be; those behind them can be any.
+const ROWS: [[u64; 4]; 25] = [
+    [3, 8, 0x78006A2000000000, 0x78706A2F00FFFFFF],
+    [3, 8, 0x78006AA000000000, 0x78706AAF00FFFFFF],
+    [3, 8, 0x78006B2000000000, 0x78706B2F00FFFFFF],
+    [3, 8, 0x78006BA000000000, 0x78706BAF00FFFFFF],
+    [3, 10, 0x010078006B200000, 0x010078706B2700FF],
+    [3, 10, 0x010078806BA00000, 0x010078F06BA700FF],
+    [4, 4, 0x0140690000000000, 0x01406970FFFFFFFF],
+    [4, 6, 0x01406F0000000000, 0x01406F70FFFFFFFF],
+    [4, 10, 0x014078006B200000, 0x014078706B2000FF],
+    [4, 4, 0x01406D0000000000, 0x01406D70FFFFFFFF],
+    [4, 6, 0x01406B0000000000, 0x01406B00FFFFFFFF],
+    [4, 8, 0x01406B2000000000, 0x01406B2000FFFFFF],
+    [4, 4, 0x0140698000000000, 0x014069F0FFFFFFFF],
+    [4, 6, 0x01406F8000000000, 0x01406FF0FFFFFFFF],
+    [4, 10, 0x014078006BA00000, 0x014078706BA000FF],
+    [4, 4, 0x01406D8000000000, 0x01406DF0FFFFFFFF],
+    [4, 6, 0x01406B8000000000, 0x01406B80FFFFFFFF],
+    [4, 8, 0x01406BA000000000, 0x01406BA000FFFFFF],
+    [5, 4, 0x7B5C598F00000000, 0x7B5C598FFFFFFFFF],
+    [5, 4, 0x7BD4598F00000000, 0x7BD4598FFFFFFFFF],
+    [6, 2, 0x5670000000000000, 0x5670FFFFFFFFFFFF],
+    [6, 2, 0x0180000000000000, 0x0180FFFFFFFFFFFF],
+    [6, 2, 0x5700000000000000, 0x5730FFFFFFFFFFFF],
+    [7, 4, 0x6A40000000000000, 0x6A4FFFFFFFFFFFFF],
+    [7, 4, 0x6AC0000000000000, 0x6ACFFFFFFFFFFFFF],
 ];
 
-// Digit by digit.
-fn fits(b: u16, x: u8) -> bool
-    ensures { λ r. ⌜ r ≡ fits (between b) x ⌝ }
+const TOP: u64 = 72057594037927936;
+
+// Digit by digit: the uppermost byte of both.
+fn fits(least: u64, most: u64, x: u8) -> bool
+    ensures { λ r. ⌜ r ≡ fits (between least most) x ⌝ }
 {
-    let y = x as u16;
-    (b / 4096 <= y / 16) & (y / 16 <= b / 16 % 16) & (b / 256 % 16 <= y % 16) & (y % 16 <= b % 16)
+    let y = x as u64;
+    let a = least / TOP;
+    let b = most / TOP;
+    (a / 16 <= y / 16) & (y / 16 <= b / 16) & (a % 16 <= y % 16) & (y % 16 <= b % 16)
 }
 
 // What is missing counts as 0.
@@ -233,53 +55,45 @@ fn byte_at(s: &[u8], i: usize) -> u8
     if i < s.len() { s[i] } else { 0 }
 }
 
-fn number_at(row: &[u16], i: usize) -> u16
-    ensures { λ r. ⌜ r ≡ getD (now (row .entry)) i 0 ⌝ }
+fn wide(x: u64) -> usize
+    ensures { λ r. ⌜ (r ≡ x % 256) × (r < 256) ⌝ }
 {
-    if i < row.len() { row[i] } else { 0 }
-}
-
-fn wide(x: u16) -> usize
-    ensures { λ r. ⌜ (r ≡ x) × (r < 65536) ⌝ }
-{
-    x as usize
+    (x % 256) as usize
 }
 
 // As far as both go.
-fn agrees(row: &[u16], s: &[u8]) -> bool
-    ensures { λ r. ⌜ r ≡ agrees (codeIn (now (row .entry))) (now (s .entry)) ⌝ }
+fn agrees(count: u64, least: u64, most: u64, s: &[u8]) -> bool
+    ensures { λ r. ⌜ r ≡ agrees (patternsIn (count % 256) least most) (now (s .entry)) ⌝ }
 {
-    let n = wide(number_at(row, 1));
+    let n = wide(count);
+    let mut a = least;
+    let mut b = most;
     let mut j = 0;
-    while (j < n) & (j < s.len()) & (2 + j < row.len()) {
-        if !fits(number_at(row, 2 + j), byte_at(s, j)) {
+    while (j < n) & (j < s.len()) {
+        if !fits(a, b, byte_at(s, j)) {
             return false;
         }
+        a = a % TOP * 256;
+        b = b % TOP * 256 + 255;
         j += 1;
     }
     true
 }
 
-fn row_agrees(row: &[u16; 12], s: &[u8]) -> bool
-    ensures { λ r. ⌜ r ≡ agrees (codeIn (now (row .entry))) (now (s .entry)) ⌝ }
-{
-    agrees(row, s)
-}
-
-fn low(x: u16) -> u8
+fn low(x: u64) -> u8
     ensures { λ r. ⌜ r ≡ x % 256 ⌝ }
 {
     (x % 256) as u8
 }
 
 // The first row that agrees.
-fn find(t: &[[u16; 12]], s: &[u8]) -> u8
+fn find(t: &[[u64; 4]], s: &[u8]) -> u8
     ensures { λ g. ⌜ g ≡ groupIn (rowsIn (now (t .entry))) (now (s .entry)) ⌝ }
 {
     let mut k = 0;
     while k < t.len() {
         let row = t[k];
-        if row_agrees(&row, s) {
+        if agrees(row[1], row[2], row[3], s) {
             return low(row[0]);
         }
         k += 1;

@@ -18,19 +18,20 @@ abbrev μ-loop : tie.MeasureT-loop
 pub find-spec : {M : Type 1} → statement M
 find-spec =
     tie.close
-    (tie.spec Inv-loop μ-loop (λ c. (search needs, refl)) (λ c. search needs) (λ c. search needs) (λ c κs. search needs) (λ c. search needs)
+    (tie.spec Inv-loop μ-loop (λ c. (search needs, refl)) (λ c. search needs) (λ c. search needs) (λ c. search needs) (λ c. search needs) (λ c. search needs)
+    (λ c κs. search needs) (λ c. search needs)
     (λ c κs. search needs)
     (λ c.
     let d = c .before in
-    let l = d .before .before .before .before .before in
+    let l = d .before .before .before .before in
     let a = l .before .before .args in
-    c .low .ensures ∙ sym (found (a .t .now) (l .loop .k) (a .s .now) (d .before .before .before .before .loop-test .taken) (sym (d .before .row-agrees .ensures) ∙ d .if1 .taken)) ∙ l .loop .inv .1)
+    c .low .ensures ∙ sym (found (a .t .now) (l .loop .k) (a .s .now) (d .before .before .before .loop-test .taken) (sym (d .before .agrees .ensures) ∙ d .if1 .taken)) ∙ l .loop .inv .1)
     (λ c. search needs)
     (λ c. search needs)
     (λ c.
-    let l = c .before .before .before .before .before in
+    let l = c .before .before .before .before in
     let a = l .before .before .args in (
       search needs,
-      sym (passed (a .t .now) (l .loop .k) (a .s .now) (c .before .before .before .before .loop-test .taken) (sym (c .before .row-agrees .ensures) ∙ c .if1 .left)) ∙ l .loop .inv .1,
+      sym (passed (a .t .now) (l .loop .k) (a .s .now) (c .before .before .before .loop-test .taken) (sym (c .before .agrees .ensures) ∙ c .if1 .left)) ∙ l .loop .inv .1,
     ))
     (λ c. let l = c .before in let a = l .before .before .args in sym (none (a .t .now) (l .loop .k) (a .s .now) (c .loop-test .left)) ∙ l .loop .inv .1))
