@@ -9,6 +9,6 @@ pub not-held-spec : {M : Type 1} → statement M
 unfolding notHeldText
 not-held-spec =
     tie.close
-    (tie.spec (λ c. search needs) (λ c κs. search needs) (λ c. search needs) (λ c κs. search needs) (λ c. search needs) (λ c κs. search needs)
+    (tie.spec (λ c. search needs) (λ c κs. search needs) (λ c. search needs) (λ c κs. search needs) (λ c κs. search needs)
     (λ c. rw (eq-eqb _ _ (c .before .before .if1 .taken)) (c .bytes .ensures))
-    (λ c. rw (ne-eqb _ _ (c .before .before .before .before .if1 .left)) (more (c .before .before .bytes2 .ensures) (c .decimal .ensures))))
+    (λ c. rw (ne-eqb _ _ (c .before .before .before .if1 .left)) (more (c .before .bytes2 .ensures) (c .decimal .ensures))))
