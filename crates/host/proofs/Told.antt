@@ -6,6 +6,7 @@ use lib.ListN.{length}
 use Rattle.figure.specs.Answer.{Figured}
 use Rattle.figure.specs.declared.Verdict.{Verdict}
 use Rattle.host.specs.Answers.{Noted, noted}
+use Rattle.host.specs.Codes.{decoding, withFields}
 use Rattle.host.specs.Steps.{left, leaving}
 use Rattle.host.specs.MirrorSteps.{Kept, kept, keeping}
 use Rattle.host.specs.Figures.{Figuring, figuring, withTable, figureTold, FigureCall, figured}
@@ -17,6 +18,9 @@ module _ {n : ℕ} {a : List ℕ} {t : Noted} (e : noted n a ≡ t) where
   abbrev e-answer : a ≡ t .answer
   e-answer = ap (λ (m : Noted). m .answer) e
 
+  pub fill : {x y : List ℕ} → x ≡ y → decoding n x a ≡ withFields y t
+  fill p = cc (p, e-returned, e-answer)
+
   pub keep : {x y : List ℕ} → x ≡ y → kept n x a ≡ keeping y t
   keep p = cc (p, e-returned, e-answer)
 
@@ -26,7 +30,7 @@ module _ {n : ℕ} {a : List ℕ} {t : Noted} (e : noted n a ≡ t) where
 pub beside : {n : ℕ} {a x y : List ℕ} {t : Noted} (m : List ℕ) → kept n x a ≡ keeping y t → left n m x a ≡ leaving m y t
 beside m e = cc (ap (λ (k : Kept). k .returned) e, ap (λ (k : Kept). k .regs) e, ap (λ (k : Kept). k .answer) e)
 
-pub figure-call : {rom table after answer new : List ℕ} {entry n : ℕ} {v : Verdict} → 3 ≤ length answer → Figured rom entry table v after
+pub figure-call : {rom table after answer new : List ℕ} {entry n : ℕ} {v : Verdict} → 4 ≤ length answer → Figured rom entry table v after
     → noted n new ≡ figureTold v answer → FigureCall rom entry table answer (figuring n after new)
 figure-call {rom} {table} {after} {answer} {new} {entry} {n} {v} h f e =
     let q : figuring n after new ≡ withTable after (figureTold v answer) = cc (e-returned e, e-answer e) in
