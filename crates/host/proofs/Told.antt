@@ -1,15 +1,22 @@
 -- What is returned and the answer, put beside what else was lent.
-use mathlib.Core.Path.{_≡_, sym, ap, subst}
+use mathlib.Core.Path.{_≡_, sym, ap, subst, _∙_}
 use mathlib.Core.List.{List}
 use Prim.Native.Nat.{ℕ, _≤_}
-use lib.ListN.{length}
+use lib.ListN.{length, getD}
+use lib.Seq.{sets}
+use Rattle.layout.proofs.Stored.{stored}
 use Rattle.figure.specs.Answer.{Figured}
 use Rattle.figure.specs.declared.Verdict.{Verdict}
-use Rattle.host.specs.Answers.{Noted, noted}
+use Rattle.host.specs.Answers.{Noted, noted, tell}
 use Rattle.host.specs.Codes.{decoding, withFields}
 use Rattle.host.specs.Steps.{left, leaving}
 use Rattle.host.specs.MirrorSteps.{Kept, kept, keeping}
 use Rattle.host.specs.Figures.{Figuring, figuring, withTable, figureTold, FigureCall, figured}
+
+-- numbers stored one after the other are told
+pub stored-told : (xs l : List ℕ) {after : List ℕ} → length xs ≤ length l → after ≡ sets l 0 xs → noted (getD xs 0 0) after ≡ tell xs l
+unfolding tell
+stored-told xs l h e = ap (noted (getD xs 0 0)) (e ∙ stored xs l h)
 
 module _ {n : ℕ} {a : List ℕ} {t : Noted} (e : noted n a ≡ t) where
   abbrev e-returned : n ≡ t .returned

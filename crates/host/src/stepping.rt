@@ -70,7 +70,15 @@ fn tell_ending(why: Ending, steps: u32, states: u64, answer: &mut [u64]) -> u32
     match why {
         Ending::AtStop => answers::told_six(answer, 0, 0, 0, steps, states, 0),
         Ending::Spent => answers::told_six(answer, 0, 0, 0, steps, states, 1),
-        Ending::Halted(f) => answers::told_six(answer, f.number(), f.place(), f.group(), steps, states, 2),
+        Ending::Halted(f) => answers::told_six(
+            answer,
+            f.number(),
+            f.place(),
+            f.group(),
+            steps,
+            states,
+            2,
+        ),
     }
 }
 
@@ -117,7 +125,12 @@ pub extern "C" fn h8_run(
         return 13;
     }
     if regs.len() < lent::REGISTERS {
-        return tell_ending(Ending::Halted(Refusal::LentTooShort(lent::REGISTERS as u32)), 0, 0, answer);
+        return tell_ending(
+            Ending::Halted(Refusal::LentTooShort(lent::REGISTERS as u32)),
+            0,
+            0,
+            answer,
+        );
     }
     if 1000000 < budget {
         return tell_ending(Ending::Halted(Refusal::BudgetTooLarge), 0, 0, answer);
