@@ -1,4 +1,4 @@
--- The same as the code finds it. Nothing to believe: `proofs/Told.antt` shows that it is what `Codes` says.
+-- The same as the code finds it. Nothing to believe: `proofs/Coded.antt` shows that it is what `Codes` says.
 use Prim.Native.Nat.{ℕ, _%_}
 use mathlib.Core.Path.{_≡_}
 use mathlib.Core.Bool.{cond}
