@@ -8,6 +8,6 @@ pub grouped-spec : {M : Type 1} → statement M
 unfolding groupLine
 grouped-spec =
     tie.close
-    (tie.spec (λ c. search needs) (λ c κs. search needs) (λ c. search needs) (λ c. search needs) (λ c κs. search needs)
+    (tie.spec (λ c. search needs) (λ c κs. search needs) (λ c. search needs) (λ c κs. search needs)
     (λ c. rw (eq-eqb _ _ (c .before .before .if1 .taken)) (c .bytes .ensures))
-    (λ c. rw (ne-eqb _ _ (c .before .before .before .if1 .left)) (c .number .ensures)))
+    (λ c. rw (ne-eqb _ _ (c .before .before .if1 .left)) (c .number .ensures)))
