@@ -33,7 +33,8 @@ static void tell_group(uint32_t *answer, uint64_t *wide, uint32_t number, uint32
     answer ? (answer[2] = group) : (wide[2] = group);
 }
 
-/* What is left out, with the faults of it: the group, or 0. `right` is what it should be, and 4 if the bytes are cut short. */
+/* What is left out, with the faults of it: the group, or 0, or -1 where the bytes are told to be cut short. `right` is the group as it
+   should be; `cut` says that they are a beginning of a code of the set. */
 static int spoil_left_out(const uint8_t *b, size_t n, int right, int cut)
 {
     int by_d24 = n >= 4 && b[0] == 0x01 && b[1] == 0x00 && b[2] == 0x78;
@@ -46,8 +47,10 @@ static int spoil_left_out(const uint8_t *b, size_t n, int right, int cut)
         return 3;
     if (FAULT == 52 && n >= 5 && b[0] == 0x78 && !(b[1] & 0x8F) && (b[2] & 0xFE) == 0x6A && (b[3] & 0x70) == 0x20)
         return 3;                                                                   /* the 00 before a d:24 may be any byte */
-    if (FAULT == 53 && cut && n && (b[0] == 0x01 || b[0] == 0x6A))                  /* 15 before 4 */
-        return n > 1 ? b[1] == 0 && b[0] == 0x01 && n == 2 ? 3 : 0 : b[0] == 0x01 ? 3 : 7;
+    if (FAULT == 53 && cut && n == 1 && b[0] == 0x6A)                               /* 15 before 4 */
+        return 7;
+    if (FAULT == 53 && cut && (n == 1 || (n == 2 && b[1] == 0x00)) && b[0] == 0x01)
+        return 3;
     if (FAULT == 57 && n >= 2 && b[0] == 0x56)                                      /* RTE with any second byte */
         return 6;
     if (FAULT == 58 && n == 2 && b[0] == 0x78)                                      /* cut short by the end: 4 and not 15 */
@@ -55,7 +58,7 @@ static int spoil_left_out(const uint8_t *b, size_t n, int right, int cut)
     return right;
 }
 
-/* Number and group of bytes, of which decode says `number` and `group`. */
+/* Number and group of bytes, as they should be, become what the fault tells. */
 static void sort_left_out(const uint8_t *b, size_t n, uint32_t *number, uint32_t *group)
 {
     if (*number != 3 && *number != 4 && *number != 15)

@@ -167,7 +167,8 @@ static void bad_step(void)
                     refused(&l, "step with too few registers", got, 13, 10, STEP, 4);
                 else if (w->number)
                     refused(&l, w->what, got, w->number, 0, STEP, 4);
-                else if (got || at(&l, 2, 4) || at(&l, 3, 4) != 2 || l.regs[0] != 1 || (regs_n > 10 && l.regs[regs_n - 1] != 0x11111111 * (uint32_t)(regs_n - 1)))
+                else if (got || at(&l, 2, 4) || at(&l, 3, 4) != 2 || l.regs[0] != 1
+                         || (regs_n > 10 && l.regs[regs_n - 1] != 0x11111111 * (uint32_t)(regs_n - 1)))
                     fail("step on longer arrays answers %u", got);
             }
 }

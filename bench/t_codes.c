@@ -270,6 +270,7 @@ static void compare_fields(const uint32_t *wanted_fields, size_t out_n)
     uint32_t *fields = lend(&regs_lender, 4 * H8_FIELDS), *answer = lend(&answer_lender, 16);
     uint8_t *out = lend(&out_lender, out_n), code[8];
     memcpy(fields, wanted_fields, 4 * H8_FIELDS);
+    memset(answer, 0xEE, 16);
     memset(out, 0x5A, out_n);
     int form = form_of(fields), length = 0, written = 1;
     if (form >= 0)

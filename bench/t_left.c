@@ -113,7 +113,7 @@ static int kept(const struct trial *t, uint32_t pc)
         if (t->ram[i] != MARK)
             return 0;
     return !memcmp(t->regs, regs, 40) && !memcmp(t->rom + AT, t->bytes, t->n) && guards_stand(&rom_lender) && guards_stand(&ram_lender)
-        && guards_stand(&regs_lender) && guards_stand(&answer_lender) && guards_stand(&out_lender);
+        && guards_stand(&regs_lender) && guards_stand(&answer_lender);
 }
 
 static void step_there(struct trial *t)
@@ -154,7 +154,7 @@ static void figure_there(struct trial *t, uint32_t entry)
     right &= table[0] == 0 && table[1] == AT && table[AT] == 0 && table[AT + 1] == AT;
     for (size_t i = 0; i < n; i++)
         right &= table[i] != marked;
-    if (!right || !kept(t, 0))
+    if (!right || !kept(t, 0) || !guards_stand(&out_lender))
         wrong(t, "figure", answer[0], answer[1], answer[2]);
     memcpy(kept_table, table, 8 * (n + MORE));
     memset(answer, MARK, 8 * (4 + MORE));

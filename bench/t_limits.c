@@ -417,8 +417,8 @@ static void far_step(const struct far *f)
     struct board b = {f->base, rom, H8_ROM_MAX, model_ram, H8_RAM_MAX};
     struct outcome o = model_step(&b, model_regs);
     h8_step(f->base, rom, H8_ROM_MAX, ram, H8_RAM_MAX, regs, 10, answer, 4);
-    if (answer[0] != f->number || answer[1] != f->place || answer[2] != o.group || answer[3] != o.states || o.number != f->number || o.place != f->place
-        || memcmp(regs, model_regs, 40) || memcmp(ram, model_ram, H8_RAM_MAX))
+    if (answer[0] != f->number || answer[1] != f->place || answer[2] != o.group || answer[3] != o.states
+        || o.number != f->number || o.place != f->place || memcmp(regs, model_regs, 40) || memcmp(ram, model_ram, H8_RAM_MAX))
         fail("longest board, %s: answers %u at %X; wanted %u at %X", f->what, answer[0], answer[1], f->number, f->place);
     count(1);
 }
@@ -432,7 +432,8 @@ static void far_run(void)
     memset(rom, 0, H8_ROM_MAX);
     lend_registers(&regs, 0, 0);
     uint32_t got = h8_run(0xFF0000, rom, H8_ROM_MAX, ram, H8_RAM_MAX, regs, 10, 0xFFFFFFFF, 1000000, answer, 6);
-    if (got != 2 || answer[1] != 524288 || answer[2] || answer[3] != 262144 || answer[4] != 524288 || answer[5] != H8_REFUSED || regs[H8_PC] != 524288)
+    if (got != 2 || answer[1] != 524288 || answer[2] || answer[3] != 262144 || answer[4] != 524288 || answer[5] != H8_REFUSED
+        || regs[H8_PC] != 524288)
         fail("a run over 262,144 NOPs answers %u at %llX after %llu steps", got, (unsigned long long)answer[1], (unsigned long long)answer[3]);
     count(1);
 }

@@ -111,7 +111,9 @@ static void count_left_out(void)
             bytes[d.group]++;
         }
     }
-    static const struct { long of, words, bytes; } wanted[8] = {[3] = {6, 8, 1}, [4] = {12, 1, 0}, [5] = {2, 2, 1}, [6] = {3, 6, 2}, [7] = {2, 32, 0}};
+    static const struct { long of, words, bytes; } wanted[8] = {
+        [3] = {6, 8, 1}, [4] = {12, 1, 0}, [5] = {2, 2, 1}, [6] = {3, 6, 2}, [7] = {2, 32, 0},
+    };
     for (int g = 1; g < 8; g++) {
         expect("left-out codes of a group", of[g], wanted[g].of);
         expect("first words of a group", words[g], wanted[g].words);

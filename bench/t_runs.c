@@ -226,7 +226,7 @@ static void in_pieces(const char *folder, const char *name, uint32_t pc)
     }
 }
 
-/* RANDOM PROGRAMS: instructions one behind the other, jumps mostly short. */
+/* RANDOM PROGRAMS: instructions one behind the other, jumps mostly short; here and there the beginning of a left-out code. */
 static uint32_t program_value(const struct board *b, int form)
 {
     const struct form *f = &forms[form];
@@ -259,16 +259,19 @@ static size_t make_program(uint8_t *rom, const struct board *b)
 {
     size_t at = 0;
     while (at + 8 <= b->rom_n) {
-        uint8_t code[8];
-        int form = some_form();
-        int n = build(form, below(2) ? below(4) : (uint32_t)any(), program_value(b, form), (uint32_t)any(), code);
+        uint8_t code[LEFT_OUT_LENGTH];
+        int form = some_form(), n = 2 * (1 + (int)below(4));
+        if (below(80) == 0)
+            build_left_out((int)below(LEFT_OUT), any(), code);
+        else
+            n = build(form, below(2) ? below(4) : (uint32_t)any(), program_value(b, form), (uint32_t)any(), code);
         memcpy(rom + at, code, (size_t)n);
         at += (size_t)n;
     }
     return at;
 }
 
-static void random_program(uint64_t endings[3], uint64_t *steps)
+static void random_program(uint64_t endings[3], uint64_t *steps, uint64_t *left_out)
 {
     static uint8_t ram[256];
     uint32_t regs[10], rom_n = 16 + 2 * below(120), ram_n = 2 * (16 + below(112));
@@ -285,12 +288,13 @@ static void random_program(uint64_t endings[3], uint64_t *steps)
     regs[H8_CONDITION] = below(256);
     struct ran r = compare_run(&b, regs, below(2) ? 2 * below(rom_n / 2) : 0xFFFFFF, below(400));
     endings[r.ending]++;
+    *left_out += r.number == 15;
     *steps += r.steps;
 }
 
 void test_runs(const char *samples)
 {
-    uint64_t endings[3] = {0}, steps = 0;
+    uint64_t endings[3] = {0}, steps = 0, left_out = 0;
     begin("samples: sheet counter, decimal counter, copy loop, every form once");
     sheet_counter(samples);
     decimal_counter(samples);
@@ -304,11 +308,11 @@ void test_runs(const char *samples)
     end("runs");
     begin("runs of random programs against the model's repeated step");
     for (int k = 0; k < 48000 && !failing(); k++)
-        random_program(endings, &steps);
+        random_program(endings, &steps, &left_out);
     for (int i = 0; i < 3; i++)
         if (endings[i] < 1000 && !failing())
             fail("only %llu runs had ending %d", (ull)endings[i], i);
-    if (steps < 400000 && !failing())
-        fail("only %llu steps", (ull)steps);
+    if ((steps < 400000 || left_out < 1000) && !failing())
+        fail("only %llu steps, and %llu runs refused by 15", (ull)steps, (ull)left_out);
     end("runs");
 }
