@@ -31,7 +31,7 @@ numbered NotInstruction = omega arith
 numbered BudgetTooLarge = omega arith
 numbered (LentTooShort n) = omega arith
 numbered (DivideFails p) = omega arith
-numbered (LeftOut p g) = omega arith
+numbered (LeftOut x) = omega arith
 
 module _ (answer : List ℕ) {new : List ℕ} {n : ℕ} where
   returned-figure : (k : ℕ) → noted n new ≡ figureTold (Longest k) answer → n ≡ 0

@@ -115,7 +115,7 @@ pub fn refusal(place: u32, g: u8) -> Refusal
     if g == 0 {
         Refusal::UnknownCode(place)
     } else {
-        Refusal::LeftOut(place, g)
+        Refusal::LeftOut(g as u32 * 16777216 + place % 16777216)
     }
 }
 

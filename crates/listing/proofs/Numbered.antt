@@ -4,7 +4,7 @@ use mathlib.Core.Path.{_≡_, refl, subst}
 use mathlib.Core.Logic.{_⊎_, inl, inr, ⊎-elim}
 use mathlib.Core.List.{List}
 use mathlib.Core.Bool.{Bool, true, false, cond}
-use Prim.Native.Nat.{ℕ}
+use Prim.Native.Nat.{ℕ, _<_}
 use lib.Dec.{eqb}
 use lib.ListN.{length, drop}
 use borrow.Author.Tests.{le-leb, lt-leb}
@@ -36,8 +36,8 @@ pub record Named (p : ℕ) (r : Refusal) : Type 0 where
 outside : (p : ℕ) → Named p (FetchOutside p)
 outside p = record { place = refl; number = inl refl }
 
-unheld : (p g : ℕ) → Named p (unheldOf p g)
-unheld p g = record { place = unheld-place p g; number = ⊎-elim (λ e. inr (inl e)) (λ e. inr (inr (inr (inr (inr e))))) (unheld-number p g) }
+unheld : (p g : ℕ) → p < 16777216 → Named p (unheldOf p g)
+unheld p g h = record { place = unheld-place p g h; number = ⊎-elim (λ e. inr (inl e)) (λ e. inr (inr (inr (inr (inr e))))) (unheld-number p g) }
 
 short : (p : ℕ) → Named p (CutShort p)
 short p = record { place = refl; number = inr (inr (inl refl)) }
@@ -76,19 +76,19 @@ says-goes p n s (CallsNear reach) = not-followed p
 says-goes p n s (Calls target) = not-followed p
 says-goes p n s Returns = tt
 
-says-found : (p g : ℕ) (d : Decoded) → ((r : Refusal) → d ≡ NoCode r → (r ≡ CutShort p) ⊎ (r ≡ unheldOf p g)) → Says p (foundFlow p d)
+says-found : (p g : ℕ) → p < 16777216 → (d : Decoded) → ((r : Refusal) → d ≡ NoCode r → (r ≡ CutShort p) ⊎ (r ≡ unheldOf p g)) → Says p (foundFlow p d)
 unfolding foundFlow
-says-found p g (Code i n) h = says-goes p (nextOf p n) (statesOf i) (goesOf i)
-says-found p g (NoCode r) h = ⊎-elim (λ e. rw e (short p)) (λ e. rw e (unheld p g)) (h r refl)
+says-found p g l (Code i n) h = says-goes p (nextOf p n) (statesOf i) (goesOf i)
+says-found p g l (NoCode r) h = ⊎-elim (λ e. rw e (short p)) (λ e. rw e (unheld p g l)) (h r refl)
 
 refused-decoded : (rom : List ℕ) (p : ℕ) (r : Refusal) → decodedAt rom p ≡ NoCode r → (r ≡ CutShort p) ⊎ (r ≡ unheldOf p (groupIn leftOut (drop p rom)))
 unfolding decodedAt
 refused-decoded rom p r e = refused-at p (drop p rom) r e
 
-says-at : (rom : List ℕ) (p : ℕ) → Says p (flowAt rom p)
+says-at : (rom : List ℕ) (p : ℕ) → p < 16777216 → Says p (flowAt rom p)
 unfolding flowAt
-says-at rom p = ⊎-elim (λ h. rw (le-leb (length rom) p h) (outside p)) (λ h. rw (lt-leb (length rom) p h) (says-found p _ (decodedAt rom p) (refused-decoded rom p))) (le-or (length rom) p)
+says-at rom p l = ⊎-elim (λ h. rw (le-leb (length rom) p h) (outside p)) (λ h. rw (lt-leb (length rom) p h) (says-found p _ l (decodedAt rom p) (refused-decoded rom p))) (le-or (length rom) p)
 
-pub forbidden-named : (rom : List ℕ) {p : ℕ} {r : Refusal} → Forbidden (flowAt rom) p r → Named p r
-forbidden-named rom {p} (stop e) = subst (λ (f : Flow). Says p f) e (says-at rom p)
-forbidden-named rom {p} (back w h) = not-upward p
+pub forbidden-named : (rom : List ℕ) {p : ℕ} {r : Refusal} → p < 16777216 → Forbidden (flowAt rom) p r → Named p r
+forbidden-named rom {p} l (stop e) = subst (λ (f : Flow). Says p f) e (says-at rom p l)
+forbidden-named rom {p} l (back w h) = not-upward p

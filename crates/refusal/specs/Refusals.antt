@@ -1,5 +1,5 @@
 -- Document 01, "Refusal numbers", and document 02: the number of each refusal, and the place given with it.
-use Prim.Native.Nat.{ℕ}
+use Prim.Native.Nat.{ℕ, _/_, _%_, _^_}
 use Rattle.refusal.specs.declared.Refusal.{Refusal}
 use Rattle.refusal.specs.declared.Refusal.the-variants.{BadBoard, FetchOutside, UnknownCode, CutShort, ReadOutside, WriteOutside, NoAdjustRow, BadEntry, NotFollowed, NotUpward, NotInstruction, BudgetTooLarge, LentTooShort, DivideFails, LeftOut}
 
@@ -18,7 +18,7 @@ numberOf NotInstruction = 11  -- a field out of range
 numberOf BudgetTooLarge = 12  -- budget over 1,000,000
 numberOf (LentTooShort n) = 13  -- lent output or table too short
 numberOf (DivideFails p) = 14  -- a zero divisor, or a quotient that does not fit (document 02, W1)
-numberOf (LeftOut p g) = 15  -- a code that the set leaves out, or its beginning (document 02, W2)
+numberOf (LeftOut x) = 15  -- a code that the set leaves out, or its beginning (document 02, W2)
 
 abbrev pub placeOf : Refusal → ℕ
 placeOf BadBoard = 0
@@ -35,7 +35,7 @@ placeOf NotInstruction = 0
 placeOf BudgetTooLarge = 0
 placeOf (LentTooShort n) = n  -- needed length
 placeOf (DivideFails p) = p  -- instruction
-placeOf (LeftOut p g) = p  -- address
+placeOf (LeftOut x) = x % 2 ^ 24  -- address
 
 -- the group that a left-out code is in (document 01, its first page); 0 for every other refusal
 abbrev pub groupOf : Refusal → ℕ
@@ -53,4 +53,4 @@ groupOf NotInstruction = 0
 groupOf BudgetTooLarge = 0
 groupOf (LentTooShort n) = 0
 groupOf (DivideFails p) = 0
-groupOf (LeftOut p g) = g
+groupOf (LeftOut x) = x / 2 ^ 24

@@ -18,8 +18,8 @@ pub enum Refusal {
     BudgetTooLarge,
     LentTooShort(u32),
     DivideFails(u32),
-    // and the group of codes
-    LeftOut(u32, u8),
+    // the address, and the group of codes above its 24 bits: one number, so that a refusal is no longer than before
+    LeftOut(u32),
 }
 
 impl Refusal {
@@ -41,7 +41,7 @@ impl Refusal {
             Refusal::BudgetTooLarge => 12,
             Refusal::LentTooShort(_) => 13,
             Refusal::DivideFails(_) => 14,
-            Refusal::LeftOut(_, _) => 15,
+            Refusal::LeftOut(_) => 15,
         }
     }
 
@@ -64,7 +64,7 @@ impl Refusal {
             Refusal::BudgetTooLarge => 0,
             Refusal::LentTooShort(n) => n,
             Refusal::DivideFails(p) => p,
-            Refusal::LeftOut(p, _) => p,
+            Refusal::LeftOut(x) => x % 16777216,
         }
     }
 
@@ -87,7 +87,7 @@ impl Refusal {
             Refusal::BudgetTooLarge => 0,
             Refusal::LentTooShort(_) => 0,
             Refusal::DivideFails(_) => 0,
-            Refusal::LeftOut(_, g) => g as u32,
+            Refusal::LeftOut(x) => x / 16777216,
         }
     }
 }

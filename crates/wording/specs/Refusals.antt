@@ -1,5 +1,5 @@
 -- Refusals in words: document 01's table, "Refusal numbers", with what stands at the place.
-use Prim.Native.Nat.{ℕ}
+use Prim.Native.Nat.{ℕ, _/_, _%_, _^_}
 use mathlib.Core.Bool.{cond}
 use mathlib.Core.List.{List, _++_}
 use lib.Dec.{eqb}
@@ -83,4 +83,4 @@ refusalText rom NotInstruction = ascii "11: not an instruction: a field is out o
 refusalText rom BudgetTooLarge = ascii "12: the budget is over 1000000 steps"
 refusalText rom (LentTooShort n) = shortText n
 refusalText rom (DivideFails p) = divideText rom p
-refusalText rom (LeftOut p g) = leftOutText p g
+refusalText rom (LeftOut x) = leftOutText (x % 2 ^ 24) (x / 2 ^ 24)

@@ -226,7 +226,7 @@ fn short(l: Line, n: u32) -> Line
     text::bytes(b, b" elements")
 }
 
-fn group_name(l: Line, g: u8) -> Line
+fn group_name(l: Line, g: u32) -> Line
     ensures { λ r. ⌜ Adds l (groupName g) r ⌝ }
 {
     match g {
@@ -238,7 +238,7 @@ fn group_name(l: Line, g: u8) -> Line
     }
 }
 
-fn left_out(l: Line, p: u32, g: u8) -> Line
+fn left_out(l: Line, p: u32, g: u32) -> Line
     ensures { λ r. ⌜ Adds l (leftOutText p g) r ⌝ }
 {
     let a = text::bytes(l, b"15");
@@ -274,6 +274,6 @@ pub fn refusal(l: Line, rom: &[u8], f: Refusal) -> Line
         Refusal::BudgetTooLarge => text::bytes(l, b"12: the budget is over 1000000 steps"),
         Refusal::LentTooShort(n) => short(l, n),
         Refusal::DivideFails(p) => divide(l, rom, p),
-        Refusal::LeftOut(p, g) => left_out(l, p, g),
+        Refusal::LeftOut(x) => left_out(l, x % 16777216, x / 16777216),
     }
 }
