@@ -1,5 +1,6 @@
-/* Asks the library what the tool is asked, and prints the answer in the tool's `--plain` form, without its words (the lines
-   `text` and `why`): a name and a value a line. The reading of arguments and the printing are written here anew.
+/* Asks the library what the tool is asked, and prints the answer in the tool's `--plain` form, without the words of instructions and
+   refusals (the lines `text` of the former, and `why`): a name and a value a line. The reading of arguments and the printing are
+   written here anew.
 
      ask answer QUESTIONS        each line `$ h8 USE ...` of the file, and its answer
      ask roms FOLDER N           N random ROMs into the folder; prints questions about them
@@ -40,6 +41,8 @@ static void print_refusal(const uint64_t *answer)
 {
     printf("refusal %llu\n", (ull)answer[0]);
     print_place("place", answer[1]);
+    if (answer[0] == 15)
+        printf("group %llu\n", (ull)answer[2]);
 }
 
 static void print_bytes(uint32_t p, uint32_t n)
@@ -53,45 +56,47 @@ static void print_bytes(uint32_t p, uint32_t n)
 /* What stands at p; answers its length and adds its states. A word that is no instruction has two bytes and no states. */
 static uint32_t print_code(uint32_t p, uint64_t *states)
 {
-    uint32_t fields[H8_FIELDS];
-    int known = h8_decode(rom + p, rom_n - p, fields, H8_FIELDS) == 0;
-    uint32_t length = known ? fields[H8_LENGTH] : 2;
+    uint32_t fields[H8_FIELDS], answer[3], number = h8_decode(rom + p, rom_n - p, fields, H8_FIELDS, answer, 3);
     print_place("place", p);
-    print_bytes(p, length);
-    if (known)
+    print_bytes(p, number ? 2 : fields[H8_LENGTH]);
+    if (number == 15)
+        printf("text left out, group %u\n", answer[2]);
+    else if (number)
+        printf("text %s\n", number == 3 ? "unknown" : "cut short");
+    else
         printf("states %u\n", fields[H8_STATES]);
-    *states += known ? fields[H8_STATES] : 0;
-    return length;
+    *states += number ? 0 : fields[H8_STATES];
+    return number ? 2 : fields[H8_LENGTH];
 }
 
 static void figure(uint32_t entry, const char *gap)
 {
-    uint64_t answer[3];
-    if (h8_figure(rom, rom_n, entry, table, rom_n, answer, 3)) {
+    uint64_t answer[4];
+    if (h8_figure(rom, rom_n, entry, table, rom_n, answer, 4)) {
         print_refusal(answer);
         return;
     }
-    printf("figure %llu\n", (ull)answer[2]);
+    printf("figure %llu\n", (ull)answer[3]);
     if (!gap)
         return;
     uint64_t states = strtoull(gap, NULL, 0);
-    int fits = answer[2] <= states;
+    int fits = answer[3] <= states;
     printf("gap %llu\nfits %s\n", (ull)states, fits ? "yes" : "no");
-    printf(fits ? "left %llu\n" : "missing %llu\n", (ull)(fits ? states - answer[2] : answer[2] - states));
+    printf(fits ? "left %llu\n" : "missing %llu\n", (ull)(fits ? states - answer[3] : answer[3] - states));
 }
 
 static void way(uint32_t entry)
 {
-    uint64_t answer[3], total = 0;
-    if (h8_figure(rom, rom_n, entry, table, rom_n, answer, 3)) {
+    uint64_t answer[4], total = 0;
+    if (h8_figure(rom, rom_n, entry, table, rom_n, answer, 4)) {
         print_refusal(answer);
         return;
     }
-    uint64_t longest = answer[2];
-    for (uint64_t p = entry; p != H8_NONE; p = answer[2]) {
+    uint64_t longest = answer[3];
+    for (uint64_t p = entry; p != H8_NONE; p = answer[3]) {
         print_code((uint32_t)p, &total);
         printf("total %llu\n", (ull)total);
-        if (h8_way(rom, rom_n, table, rom_n, (uint32_t)p, answer, 3)) {
+        if (h8_way(rom, rom_n, table, rom_n, (uint32_t)p, answer, 4)) {
             print_refusal(answer);
             return;
         }
@@ -101,8 +106,8 @@ static void way(uint32_t entry)
 
 static void list(uint32_t from, uint32_t to)
 {
-    uint64_t answer[3], states = 0;
-    h8_figure(rom, rom_n, 0, table, rom_n, answer, 3);
+    uint64_t answer[4], states = 0;
+    h8_figure(rom, rom_n, 0, table, rom_n, answer, 4);
     for (uint32_t p = from; p < rom_n && p <= to;) {
         uint32_t n = print_code(p, &states);
         if (table[p + 1] == H8_NONE)
@@ -148,14 +153,14 @@ static void print_registers(const uint32_t *regs)
 static void run(struct asked a)
 {
     static const char *const ended[3] = {"stop", "budget", "refusal"};
-    uint64_t answer[5];
+    uint64_t answer[6];
     memset(ram, 0, sizeof ram);
-    uint32_t refusal = h8_run(a.base, rom, rom_n, ram, a.length, a.regs, H8_REGISTERS, a.stop, a.budget, answer, 5);
+    uint32_t refusal = h8_run(a.base, rom, rom_n, ram, a.length, a.regs, H8_REGISTERS, a.stop, a.budget, answer, 6);
     if (refusal == 1 || refusal == 12) {    /* nothing ran: the arguments are wrong */
         print_refusal(answer);
         return;
     }
-    printf("steps %llu\nstates %llu\nended %s\n", (ull)answer[2], (ull)answer[3], ended[answer[4]]);
+    printf("steps %llu\nstates %llu\nended %s\n", (ull)answer[3], (ull)answer[4], ended[answer[5]]);
     if (refusal)
         print_refusal(answer);
     print_registers(a.regs);
@@ -237,13 +242,25 @@ static int some_product(void)
     return form;
 }
 
-/* One piece of a random ROM: mostly an instruction that goes on, some branches forward, few back, a return, or any word. */
+/* A left-out code, whole or cut at some word. */
+static void append_left_out(void)
+{
+    uint8_t code[LEFT_OUT_LENGTH];
+    int k = (int)below(LEFT_OUT);
+    build_left_out(k, (uint64_t)below(1u << 31) << 33 | (uint64_t)below(1u << 31) << 2 | below(4), code);
+    append(code, 2 * (1 + (int)below((uint32_t)left_out_length(k) / 2)));
+}
+
+/* One piece of a random ROM: mostly an instruction that goes on, some branches forward, few back, a return, any word, or what the set
+   leaves out. */
 static void append_piece(void)
 {
     uint32_t die = below(40);
     int form = (int)below(FORMS);
     if (die == 0)
         append((uint8_t[]){(uint8_t)below(256), (uint8_t)below(256)}, 2);
+    else if (die == 37)
+        append_left_out();
     else if (die < 4)
         append((uint8_t[]){0x54, 0x70}, 2);
     else if (die < 10)

@@ -181,15 +181,17 @@ uint32_t from_hex(const char *digits, uint8_t *into)
 }
 
 /* Showing. */
+const char *refused_code(int answer) { return answer == 4 ? "cut short" : answer == 15 ? "left-out code" : "unknown code"; }
+
 void show_code(const uint8_t *rom, size_t rom_n, uint32_t pc)
 {
     struct decoded d;
     char text[40] = "";
     size_t left = pc < rom_n ? rom_n - pc : 0;
     int answer = decode(rom + (pc < rom_n ? pc : 0), left, &d);
-    for (size_t i = 0; i < left && i < 8; i++)
+    for (size_t i = 0; i < left && i < LEFT_OUT_LENGTH; i++)
         snprintf(text + strlen(text), sizeof text - strlen(text), "%02X ", rom[pc + i]);
-    say("at %06X: %s form: %s", pc, text, left == 0 ? "none, outside" : answer ? answer == 3 ? "unknown" : "cut short" : forms[d.form].name);
+    say("at %06X: %s form: %s", pc, text, left == 0 ? "none, outside" : answer == 0 ? forms[d.form].name : refused_code(answer));
 }
 
 void show_registers(const char *title, const uint32_t r[10])
@@ -221,8 +223,8 @@ static void show_step(const struct state *s, struct outcome o, struct side model
     show_registers("after, model", model.regs);
     show_memory("memory, library", s->base, s->ram, library.ram, s->ram_n);
     show_memory("memory, model", s->base, s->ram, model.ram, s->ram_n);
-    say("answer, library: number %u place %06X states %u", answer[0], answer[1], answer[2]);
-    say("answer, model:   number %u place %06X states %u", o.number, o.place, o.states);
+    say("answer, library: number %u place %06X group %u states %u", answer[0], answer[1], answer[2], answer[3]);
+    say("answer, model:   number %u place %06X group %u states %u", o.number, o.place, o.group, o.states);
 }
 
 struct outcome compare_step(const struct state *s)
@@ -231,16 +233,16 @@ struct outcome compare_step(const struct state *s)
     uint8_t model_ram[SMALL];
     struct board b = {s->base, s->rom, s->rom_n, model_ram, s->ram_n};
     uint8_t *rom = lend(&rom_lender, s->rom_n), *ram = lend(&ram_lender, s->ram_n);
-    uint32_t *regs = lend(&regs_lender, 40), *answer = lend(&answer_lender, 12), returned;
+    uint32_t *regs = lend(&regs_lender, 40), *answer = lend(&answer_lender, 16), returned;
     memcpy(rom, s->rom, s->rom_n);
     memcpy(ram, s->ram, s->ram_n);
     memcpy(regs, s->regs, 40);
     memcpy(model_ram, s->ram, s->ram_n);
     memcpy(model_regs, s->regs, 40);
-    memset(answer, 0xEE, 12);
-    returned = h8_step(s->base, rom, s->rom_n, ram, s->ram_n, regs, 10, answer, 3);
+    memset(answer, 0xEE, 16);
+    returned = h8_step(s->base, rom, s->rom_n, ram, s->ram_n, regs, 10, answer, 4);
     struct outcome o = model_step(&b, model_regs);
-    if (returned != o.number || answer[0] != o.number || answer[1] != o.place || answer[2] != o.states
+    if (returned != o.number || answer[0] != o.number || answer[1] != o.place || answer[2] != o.group || answer[3] != o.states
         || memcmp(regs, model_regs, 40) || memcmp(ram, model_ram, s->ram_n))
         show_step(s, o, (struct side){model_regs, model_ram}, (struct side){regs, ram}, answer);
     if (memcmp(rom, s->rom, s->rom_n) || !guards_stand(&rom_lender) || !guards_stand(&ram_lender)
@@ -255,7 +257,7 @@ static void runs(void) { test_runs(samples); }
 
 static const struct { const char *part; void (*run)(void); } parts[] = {
     {"reference", test_reference}, {"marked", test_marked}, {"codes", test_codes}, {"encode", test_encode},
-    {"steps", test_steps}, {"bytes", test_bytes}, {"bits", test_bits}, {"limits", test_limits}, {"runs", runs},
+    {"steps", test_steps}, {"bytes", test_bytes}, {"bits", test_bits}, {"left", test_left_out}, {"limits", test_limits}, {"runs", runs},
     {"figures", test_figures}, {"bad", test_bad_input},
 };
 

@@ -41,6 +41,7 @@ struct state {
 /* The library's step and the model's from the same state, compared whole. Answers the model's outcome; fails the test on a
    difference, naming the form. */
 struct outcome compare_step(const struct state *s);
+const char *refused_code(int answer);       /* what decode's 3, 4 or 15 says of the bytes */
 void show_code(const uint8_t *rom, size_t rom_n, uint32_t pc);
 void show_registers(const char *title, const uint32_t regs[10]);
 
@@ -51,6 +52,7 @@ void test_encode(void);
 void test_steps(void);
 void test_bytes(void);
 void test_bits(void);
+void test_left_out(void);
 void test_limits(void);
 void test_runs(const char *samples);
 void test_figures(void);

@@ -246,14 +246,46 @@ const struct form forms[FORMS] = {
     {"RTS",                    "54 70",                        "I2 K2 N2", 10, H8_RTS,     0,         0,       0,             "",   ""},
 };
 
-/* What a pattern says of the first eight bytes, the first byte uppermost: (bytes & mask) == value. */
+/* One line for each code that the set leaves out, by its group in document 01. In a pattern [tn] is a digit 0 to 3; all else is
+   as above. The 00 before a d:24 or an aa:24 is part of the code. Only of MOV.L the store by d:24 has the top bit of its fourth
+   byte set. STC.W CCR,@-ERd is damaged wherever it stands in the manual, and is taken from that of the H8S. */
+const struct left_out left_outs[LEFT_OUT] = {
+    {3, "MOV.B @(d:24,ERs),Rd",  "78 [es]0 6A 2[rd] 00 [d24]"},
+    {3, "MOV.B Rs,@(d:24,ERd)",  "78 [ed]0 6A A[rs] 00 [d24]"},
+    {3, "MOV.W @(d:24,ERs),Rd",  "78 [es]0 6B 2[rd] 00 [d24]"},
+    {3, "MOV.W Rs,@(d:24,ERd)",  "78 [ed]0 6B A[rs] 00 [d24]"},
+    {3, "MOV.L @(d:24,ERs),ERd", "01 00 78 [es]0 6B 2[ed] 00 [d24]"},
+    {3, "MOV.L ERs,@(d:24,ERd)", "01 00 78 [8+ed]0 6B A[es] 00 [d24]"},
+    {4, "LDC.W @ERs,CCR",        "01 40 69 [es]0"},
+    {4, "LDC.W @(d:16,ERs),CCR", "01 40 6F [es]0 [d16]"},
+    {4, "LDC.W @(d:24,ERs),CCR", "01 40 78 [es]0 6B 20 00 [d24]"},
+    {4, "LDC.W @ERs+,CCR",       "01 40 6D [es]0"},
+    {4, "LDC.W @aa:16,CCR",      "01 40 6B 00 [aa16]"},
+    {4, "LDC.W @aa:24,CCR",      "01 40 6B 20 00 [aa24]"},
+    {4, "STC.W CCR,@ERd",        "01 40 69 [8+ed]0"},
+    {4, "STC.W CCR,@(d:16,ERd)", "01 40 6F [8+ed]0 [d16]"},
+    {4, "STC.W CCR,@(d:24,ERd)", "01 40 78 [ed]0 6B A0 00 [d24]"},
+    {4, "STC.W CCR,@-ERd",       "01 40 6D [8+ed]0"},
+    {4, "STC.W CCR,@aa:16",      "01 40 6B 80 [aa16]"},
+    {4, "STC.W CCR,@aa:24",      "01 40 6B A0 00 [aa24]"},
+    {5, "EEPMOV.B",              "7B 5C 59 8F"},
+    {5, "EEPMOV.W",              "7B D4 59 8F"},
+    {6, "TRAPA #x:2",            "57 [tn]0"},
+    {6, "RTE",                   "56 70"},
+    {6, "SLEEP",                 "01 80"},
+    {7, "MOVFPE @aa:16,Rd",      "6A 4[rd] [aa16]"},
+    {7, "MOVTPE Rs,@aa:16",      "6A C[rs] [aa16]"},
+};
+
+/* What a pattern says of the first eight bytes, the first byte uppermost: (bytes & mask) == value. A code of ten bytes ends with
+   three of a displacement, which may be any, so there is nothing to say of the last two. */
 struct field { char to; uint8_t shift, bits; };         /* to: 'o' other, 'r' reg, 'v' value, 0 none */
 struct matcher {
     uint64_t mask, value;
     uint8_t length;
     struct field field[3];
 };
-static struct matcher matchers[FORMS];
+static struct matcher matchers[FORMS], left_matchers[LEFT_OUT];
 static uint8_t by_first_byte[256][FORMS + 1];           /* forms that may begin with a byte; ends with FORMS */
 enum { KINDS = H8_GIVE + 1 };
 static int first_of_kind[KINDS + 1], next_of_kind[FORMS];   /* chains of the forms of a kind; end with FORMS */
@@ -269,33 +301,35 @@ static void fixed_digit(struct matcher *m, int *at, unsigned digit)
     *at += 4;
 }
 
-/* The next bits, all but the first `held` of them, are a field. */
+/* The next bits, all but the first `held` of them, are a field. One that goes past the eighth byte is of no instruction. */
 static void field_here(struct matcher *m, int *at, char to, int width, int held, unsigned held_value)
 {
     struct field *f = m->field;
     while (f->to)
         f++;
     if (held) {
-        m->mask |= (uint64_t)1 << (63 - *at);
-        m->value |= (uint64_t)held_value << (63 - *at);
+        m->mask |= (((uint64_t)1 << held) - 1) << (64 - held - *at);
+        m->value |= (uint64_t)held_value << (64 - held - *at);
     }
+    *at += width;
+    if (*at > 64)
+        return;
     f->to = to;
     f->bits = (uint8_t)(width - held);
-    f->shift = (uint8_t)(64 - *at - width);
-    *at += width;
+    f->shift = (uint8_t)(64 - *at);
 }
 
-/* What stands between brackets: a register or a bit number by its name, or a number of so many bits. */
-static void bracket(const struct form *f, struct matcher *m, int *at, const char *text, size_t n)
+/* What stands between brackets: a register, a bit's or a trap's number by its name, or a number of so many bits. */
+static void bracket(const char *other, struct matcher *m, int *at, const char *text, size_t n)
 {
     int eight = n > 2 && text[0] == '8' && text[1] == '+';
     if (eight) {
         text += 2;
         n -= 2;
     }
-    if (n == 2 && (text[0] == 'r' || text[0] == 'e' || text[0] == 'b')) {
-        char to = strlen(f->other) == 2 && !memcmp(f->other, text, 2) ? 'o' : 'r';
-        field_here(m, at, to, 4, text[0] != 'r', (unsigned)eight);
+    if (n == 2 && strchr("rebt", text[0])) {
+        char to = strlen(other) == 2 && !memcmp(other, text, 2) ? 'o' : 'r';
+        field_here(m, at, to, 4, text[0] == 'r' ? 0 : text[0] == 't' ? 2 : 1, (unsigned)eight);
         return;
     }
     int bits = 0;
@@ -305,15 +339,15 @@ static void bracket(const struct form *f, struct matcher *m, int *at, const char
     field_here(m, at, 'v', bits, 0, 0);
 }
 
-static void read_pattern(const struct form *f, struct matcher *m)
+static void read_pattern(const char *pattern, const char *other, struct matcher *m)
 {
     int at = 0;
-    for (const char *p = f->pattern; *p; p++) {
+    for (const char *p = pattern; *p; p++) {
         if (is_hex(*p))
             fixed_digit(m, &at, hex_digit(*p));
         if (*p == '[') {
             const char *end = strchr(p, ']');
-            bracket(f, m, &at, p + 1, (size_t)(end - p - 1));
+            bracket(other, m, &at, p + 1, (size_t)(end - p - 1));
             p = end;
         }
     }
@@ -323,8 +357,11 @@ static void read_pattern(const struct form *f, struct matcher *m)
 void decoder_start(void)
 {
     memset(matchers, 0, sizeof matchers);
+    memset(left_matchers, 0, sizeof left_matchers);
     for (int i = 0; i < FORMS; i++)
-        read_pattern(&forms[i], &matchers[i]);
+        read_pattern(forms[i].pattern, forms[i].other, &matchers[i]);
+    for (int i = 0; i < LEFT_OUT; i++)
+        read_pattern(left_outs[i].pattern, "", &left_matchers[i]);
     for (unsigned b = 0; b < 256; b++) {
         int k = 0;
         for (int i = 0; i < FORMS; i++)
@@ -369,25 +406,55 @@ static void take_fields(int i, uint64_t bytes, struct decoded *out)
         out->fields[slot_of(f->to)] = (uint32_t)((bytes >> f->shift) & (((uint64_t)1 << f->bits) - 1));
 }
 
+int left_out_length(int code) { return left_matchers[code].length; }
+
+void build_left_out(int code, uint64_t operands, uint8_t out[LEFT_OUT_LENGTH])
+{
+    const struct matcher *m = &left_matchers[code];
+    uint64_t w = m->value | (operands & ~m->mask);
+    for (int i = 0; i < 8; i++)
+        out[i] = (uint8_t)(w >> (56 - 8 * i));
+    out[8] = (uint8_t)(operands >> 32 ^ operands);
+    out[9] = (uint8_t)(operands >> 40 ^ operands);
+}
+
+/* The first eight bytes, or the n there are, agree with the pattern as far as both go. */
+static int agree(uint64_t given, size_t n, const struct matcher *m)
+{
+    return ((given ^ m->value) & m->mask & (n >= 8 ? ~(uint64_t)0 : ~(~(uint64_t)0 >> 8 * n))) == 0;
+}
+
+/* Of a left-out code that the bytes begin with, or begin: the lowest group, or 0. */
+static int group_of(uint64_t given, size_t n)
+{
+    int group = 0;
+    for (int i = 0; i < LEFT_OUT; i++)
+        if (agree(given, n, &left_matchers[i]) && (group == 0 || left_outs[i].group < group))
+            group = left_outs[i].group;
+    return group;
+}
+
 int decode(const uint8_t *bytes, size_t n, struct decoded *out)
 {
     uint64_t given = 0;
     int cut = n == 0;
     out->form = -1;
+    out->group = 0;
     for (size_t i = 0; i < n && i < 8; i++)
         given |= (uint64_t)bytes[i] << (56 - 8 * i);
     for (const uint8_t *c = by_first_byte[n ? bytes[0] : 0]; n && *c != FORMS; c++) {
-        const struct matcher *m = &matchers[*c];
-        uint64_t there = n >= m->length ? ~(uint64_t)0 : ~(~(uint64_t)0 >> 8 * n);
-        if ((given ^ m->value) & m->mask & there)
+        if (!agree(given, n, &matchers[*c]))
             continue;
-        if (n >= m->length) {
+        if (n >= matchers[*c].length) {
             take_fields(*c, given, out);
             return 0;
         }
         cut = 1;
     }
-    return cut ? 4 : 3;
+    if (cut)
+        return 4;
+    out->group = group_of(given, n);
+    return out->group ? 15 : 3;
 }
 
 int build(int form, uint32_t other, uint32_t value, uint32_t reg, uint8_t out[8])

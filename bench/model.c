@@ -633,26 +633,26 @@ static void give_registers(struct cpu *c, uint32_t regs[10])
 
 struct outcome model_step(const struct board *b, uint32_t regs[10])
 {
-    struct outcome out = {0, 0, 0, -1};
+    struct outcome out = {.form = -1};
     struct cpu c = {0};
     struct decoded d;
     uint32_t pc = regs[H8_PC];
     c.board = b;
     c.here = pc;
     if (!model_board_good(b) || pc % 2 || pc >= 16777216 || regs[H8_CONDITION] > 255)
-        return (struct outcome){1, 0, 0, -1};
+        return (struct outcome){.number = 1, .form = -1};
     if (pc >= b->rom_n)
-        return (struct outcome){2, pc, 0, -1};
+        return (struct outcome){.number = 2, .place = pc, .form = -1};
     out.number = (uint32_t)decode(b->rom + pc, b->rom_n - pc, &d);
     out.form = d.form;
     if (out.number)
-        return (struct outcome){out.number, pc, 0, -1};
+        return (struct outcome){.number = out.number, .place = pc, .group = (uint32_t)d.group, .form = -1};
     take_registers(&c, regs);
     c.next = low24(pc + d.fields[H8_LENGTH]);
     c.pc = c.next;
     page_of[d.form](&c, d.fields);
     if (c.number)
-        return (struct outcome){c.number, c.place, 0, d.form};
+        return (struct outcome){.number = c.number, .place = c.place, .form = d.form};
     give_registers(&c, regs);
     out.states = d.fields[H8_STATES];
     return out;
@@ -660,11 +660,11 @@ struct outcome model_step(const struct board *b, uint32_t regs[10])
 
 struct ran model_run(const struct board *b, uint32_t regs[10], uint32_t stop, uint32_t budget)
 {
-    struct ran r = {0, 0, 0, 0, H8_REFUSED};
+    struct ran r = {.ending = H8_REFUSED};
     if (budget > 1000000)
-        return (struct ran){12, 0, 0, 0, H8_REFUSED};
+        return r.number = 12, r;
     if (!model_board_good(b) || regs[H8_PC] % 2 || regs[H8_PC] >= 16777216 || regs[H8_CONDITION] > 255)
-        return (struct ran){1, 0, 0, 0, H8_REFUSED};
+        return r.number = 1, r;
     for (;;) {
         if (regs[H8_PC] == stop)
             return r.ending = H8_STOPPED, r;
@@ -672,7 +672,7 @@ struct ran model_run(const struct board *b, uint32_t regs[10], uint32_t stop, ui
             return r.ending = H8_SPENT, r;
         struct outcome o = model_step(b, regs);
         if (o.number)
-            return r.number = o.number, r.place = o.place, r;
+            return r.number = o.number, r.place = o.place, r.group = o.group, r;
         r.steps++;
         r.states += o.states;
     }

@@ -14,12 +14,12 @@ struct board {
 };
 
 struct outcome {
-    uint32_t number, place, states;         /* number 0: done */
+    uint32_t number, place, group, states;  /* number 0: done; group 0: not of a left-out code */
     int form;                               /* of the instruction at PC, or -1 */
 };
 
 struct ran {
-    uint32_t number, place;
+    uint32_t number, place, group;
     uint64_t steps, states;
     int ending;                             /* enum h8_ending */
 };

@@ -9,7 +9,7 @@ struct machine {
     const uint8_t *rom;
     uint8_t *ram;
     uint32_t rom_n, base, ram_n;
-    uint32_t number, place;
+    uint32_t number, place, group;
 };
 
 /* Registers by digit. */
@@ -665,6 +665,58 @@ ALWAYS int step(struct machine *m)
     return s;
 }
 
+/* What the set leaves out: the group of a code that the bytes begin with, or begin, or 0. They are at least two, and the set has no
+   code that they begin with or begin. */
+static uint32_t long_by_d24(const uint8_t *c, uint32_t n)
+{
+    uint32_t store = c[3] & 0x80;
+    if (c[2] != 0x78 || c[3] & 0x0F)
+        return 0;
+    if (n >= 6 && (c[4] != 0x6B || (c[5] & 0xF8) != (0x20 | store)))
+        return 0;
+    return n < 8 || c[6] == 0 ? 3 : 0;
+}
+static uint32_t ccr_in_memory(const uint8_t *c, uint32_t n)
+{
+    if (n < 4)
+        return 4;
+    switch (c[2]) {
+    case 0x69: case 0x6D: case 0x6F: return c[3] & 0x0F ? 0 : 4;
+    case 0x6B:
+        if (c[3] & 0x5F)
+            return 0;
+        return !(c[3] & 0x20) || n < 6 || c[4] == 0 ? 4 : 0;
+    case 0x78:
+        if (c[3] & 0x8F || (n >= 6 && (c[4] != 0x6B || (c[5] & 0x7F) != 0x20)))
+            return 0;
+        return n < 8 || c[6] == 0 ? 4 : 0;
+    default: return 0;
+    }
+}
+static uint32_t left_out(const uint8_t *c, uint32_t n)
+{
+    switch (c[0]) {
+    case 0x01: return c[1] == 0 ? long_by_d24(c, n) : c[1] == 0x40 ? ccr_in_memory(c, n) : c[1] == 0x80 ? 6 : 0;
+    case 0x56: return c[1] == 0x70 ? 6 : 0;
+    case 0x57: return c[1] & 0xCF ? 0 : 6;
+    case 0x6A: return (c[1] & 0x70) == 0x40 ? 7 : 0;
+    case 0x78:
+        if (c[1] & 0x8F || (n >= 4 && ((c[2] & 0xFE) != 0x6A || (c[3] & 0x70) != 0x20)))
+            return 0;
+        return n < 6 || c[4] == 0 ? 3 : 0;
+    case 0x7B: return (c[1] == 0x5C || c[1] == 0xD4) && (n < 4 || (c[2] == 0x59 && c[3] == 0x8F)) ? 5 : 0;
+    default: return 0;
+    }
+}
+/* 3 becomes 15 where the code is left out. */
+static void sort_out(struct machine *m)
+{
+    if (m->number == 3)
+        m->group = left_out(m->rom + m->place, m->rom_n - m->place);
+    if (m->group)
+        m->number = 15;
+}
+
 static int taken_in(struct machine *m, uint32_t base, const uint8_t *rom, size_t rom_n, uint8_t *ram, size_t ram_n,
                     const uint32_t *regs)
 {
@@ -695,15 +747,17 @@ uint32_t plain_step(uint32_t base, const uint8_t *rom, size_t rom_n, uint8_t *ra
 {
     struct machine m = {0};
     int s = 0;
-    if (answer_n < 3)
+    if (answer_n < 4)
         return 13;
     if (regs_n < 10)
         refuse(&m, 13, 10);
     else if (taken_in(&m, base, rom, rom_n, ram, ram_n, regs) && (s = step(&m)) != 0)
         given_back(&m, regs);
+    sort_out(&m);
     answer[0] = m.number;
     answer[1] = m.place;
-    answer[2] = (uint32_t)s;
+    answer[2] = m.group;
+    answer[3] = (uint32_t)s;
     return m.number;
 }
 
@@ -714,7 +768,7 @@ uint32_t plain_run(uint32_t base, const uint8_t *rom, size_t rom_n, uint8_t *ram
     uint64_t states = 0;
     uint32_t steps = 0;
     int ending = H8_REFUSED, s;
-    if (answer_n < 5)
+    if (answer_n < 6)
         return 13;
     if (regs_n < 10)
         refuse(&m, 13, 10);
@@ -738,11 +792,13 @@ uint32_t plain_run(uint32_t base, const uint8_t *rom, size_t rom_n, uint8_t *ram
         }
         given_back(&m, regs);
     }
+    sort_out(&m);
     answer[0] = m.number;
     answer[1] = m.place;
-    answer[2] = steps;
-    answer[3] = states;
-    answer[4] = (uint64_t)ending;
+    answer[2] = m.group;
+    answer[3] = steps;
+    answer[4] = states;
+    answer[5] = (uint64_t)ending;
     return m.number;
 }
 
@@ -901,18 +957,29 @@ static uint32_t why(const uint8_t *rom, uint32_t rom_n, uint64_t place)
     return l.kind == STOPS ? l.number : 10;
 }
 
-static uint32_t told(uint64_t *answer, uint64_t number, uint64_t place, uint64_t third)
+static uint32_t told(uint64_t *answer, uint64_t number, uint64_t place, uint64_t fourth)
 {
     answer[0] = number;
     answer[1] = place;
-    answer[2] = third;
+    answer[2] = 0;
+    answer[3] = fourth;
     return (uint32_t)number;
+}
+/* The lowest forbidden place. */
+static uint32_t told_forbidden(const uint8_t *rom, uint32_t rom_n, uint64_t place, uint64_t *answer)
+{
+    uint32_t number = told(answer, why(rom, rom_n, place), place, 0);
+    if (number == 3)
+        answer[2] = left_out(rom + place, rom_n - (uint32_t)place);
+    if (answer[2])
+        answer[0] = number = 15;
+    return number;
 }
 
 /* 13 for the answer, 1, 8, 13 for the table. */
 static uint32_t bad_lent(size_t rom_n, uint32_t entry, size_t table_n, uint64_t *answer, size_t answer_n)
 {
-    if (answer_n < 3)
+    if (answer_n < 4)
         return 13;
     if (rom_n % 2 || rom_n > 524288)
         return told(answer, 1, 0, 0);
@@ -934,7 +1001,7 @@ uint32_t plain_figure(const uint8_t *rom, size_t rom_n, uint32_t entry, uint64_t
         table[p + 1] = r.low;
     }
     if (table[entry + 1] != H8_NONE)
-        return told(answer, why(rom, n, table[entry + 1]), table[entry + 1], 0);
+        return told_forbidden(rom, n, table[entry + 1], answer);
     return told(answer, 0, 0, table[entry]);
 }
 
@@ -946,7 +1013,7 @@ uint32_t plain_way(const uint8_t *rom, size_t rom_n, const uint64_t *table, size
     if (bad)
         return bad;
     if (table[place + 1] != H8_NONE)
-        return told(answer, why(rom, n, table[place + 1]), table[place + 1], 0);
+        return told_forbidden(rom, n, table[place + 1], answer);
     l = look(rom, n, place);
     if (l.kind == ENDS)
         return told(answer, 0, 0, H8_NONE);

@@ -38,39 +38,39 @@ static uint64_t piece = 1;                  /* of the units of a work this part 
 /* Runs again and again from `pc` until so many steps are done. Answers the steps. */
 static uint64_t runs(run_function *f, uint32_t pc, uint32_t stop, uint64_t steps)
 {
-    uint64_t done = 0, answer[5];
+    uint64_t done = 0, answer[6];
     sum = 0;
     while (done < steps) {
         uint32_t regs[10] = {0};
         memset(ram, 0, sizeof ram);
         regs[H8_PC] = pc;
-        f(0xFFEF10, rom, rom_n, ram, RAM_N, regs, 10, stop, H8_BUDGET_MAX, answer, 5);
-        done += answer[2];
-        sum = sum * 31 + answer[3] + regs[0] + regs[9] + ram[100] + answer[4];
+        f(0xFFEF10, rom, rom_n, ram, RAM_N, regs, 10, stop, H8_BUDGET_MAX, answer, 6);
+        done += answer[3];
+        sum = sum * 31 + answer[4] + regs[0] + regs[9] + ram[100] + answer[5];
     }
     return done;
 }
 
 static uint64_t steps_alone(step_function *f, uint32_t pc, uint64_t steps)
 {
-    uint32_t regs[10] = {0}, answer[3];
+    uint32_t regs[10] = {0}, answer[4];
     sum = 0;
     memset(ram, 0, sizeof ram);
     regs[H8_PC] = pc;
     for (uint64_t i = 0; i < steps; i++) {
-        f(0xFFEF10, rom, rom_n, ram, RAM_N, regs, 10, answer, 3);
-        sum = sum * 31 + answer[2] + regs[8];
+        f(0xFFEF10, rom, rom_n, ram, RAM_N, regs, 10, answer, 4);
+        sum = sum * 31 + answer[3] + regs[8];
     }
     return steps;
 }
 
 static uint64_t figures(figure_function *f, int times)
 {
-    uint64_t answer[3];
+    uint64_t answer[4];
     sum = 0;
     for (int i = 0; i < times; i++) {
-        f(rom, rom_n, 0, table, ROM_MAX, answer, 3);
-        sum = sum * 31 + answer[2] + table[1000];
+        f(rom, rom_n, 0, table, ROM_MAX, answer, 4);
+        sum = sum * 31 + answer[3] + table[1000];
     }
     return (uint64_t)times * rom_n / 2;
 }

@@ -16,13 +16,70 @@ static void start(void)
     started = 1;
 }
 
-uint32_t h8_decode(const uint8_t *bytes, size_t n, uint32_t *fields, size_t fields_n)
+/* THE GROUP that an answer tells, with the faults of it. `wide` is the answer of a run, a figure or a way. */
+static uint32_t last_group;
+static void tell_group(uint32_t *answer, uint64_t *wide, uint32_t number, uint32_t group)
+{
+    if (FAULT == 51 && group == 7)                                                  /* 7 told as 6 */
+        group = 6;
+    if (FAULT == 54 && number == 15)                                                /* a group is found in a later answer */
+        last_group = group;
+    if (FAULT == 54 && number == 3)
+        group = last_group;
+    if (FAULT == 55 && number != 15)                                                /* written with a refusal by 15 only */
+        return;
+    if (FAULT == 56 && wide)                                                        /* not told where the answer is wide */
+        group = 0;
+    answer ? (answer[2] = group) : (wide[2] = group);
+}
+
+/* What is left out, with the faults of it: the group, or 0, or -1 where the bytes are told to be cut short. `right` is the group as it
+   should be; `cut` says that they are a beginning of a code of the set. */
+static int spoil_left_out(const uint8_t *b, size_t n, int right, int cut)
+{
+    int by_d24 = n >= 4 && b[0] == 0x01 && b[1] == 0x00 && b[2] == 0x78;
+    (void)b, (void)n, (void)cut, (void)by_d24;
+    if (FAULT == 49 && right == 3 && n < 8)                                         /* a beginning is not counted */
+        return 0;
+    if (FAULT == 50 && by_d24 && b[3] & 0x80)                                       /* no top bit in the fourth byte */
+        return 0;
+    if (FAULT == 50 && by_d24 && !(b[3] & 0x8F) && (n < 5 || (b[4] == 0x6B && (n < 6 || (b[5] & 0xF8) == 0xA0))))
+        return 3;
+    if (FAULT == 52 && n >= 5 && b[0] == 0x78 && !(b[1] & 0x8F) && (b[2] & 0xFE) == 0x6A && (b[3] & 0x70) == 0x20)
+        return 3;                                                                   /* the 00 before a d:24 may be any byte */
+    if (FAULT == 53 && cut && n == 1 && b[0] == 0x6A)                               /* 15 before 4 */
+        return 7;
+    if (FAULT == 53 && cut && (n == 1 || (n == 2 && b[1] == 0x00)) && b[0] == 0x01)
+        return 3;
+    if (FAULT == 57 && n >= 2 && b[0] == 0x56)                                      /* RTE with any second byte */
+        return 6;
+    if (FAULT == 58 && n == 2 && b[0] == 0x78)                                      /* cut short by the end: 4 and not 15 */
+        return -1;
+    return right;
+}
+
+/* Number and group of bytes, as they should be, become what the fault tells. */
+static void sort_left_out(const uint8_t *b, size_t n, uint32_t *number, uint32_t *group)
+{
+    if (*number != 3 && *number != 4 && *number != 15)
+        return;
+    int told = spoil_left_out(b, n, (int)*group, *number == 4);
+    if (told < 0)
+        *number = 4, *group = 0;
+    else if (told || *number != 4)
+        *number = told ? 15 : 3, *group = (uint32_t)told;
+}
+
+uint32_t h8_decode(const uint8_t *bytes, size_t n, uint32_t *fields, size_t fields_n, uint32_t *told, size_t told_n)
 {
     struct decoded d;
     start();
-    if (fields_n < H8_FIELDS)
+    if (told_n < 3)
         return 13;
+    if (fields_n < H8_FIELDS)
+        return told[0] = 13, told[1] = H8_FIELDS, told[2] = 0, 13;
     int answer = decode(bytes, n, &d);
+    uint32_t number, group = (uint32_t)d.group;
     if (FAULT == 1 && n >= 2 && bytes[0] == 0x54 && bytes[1] == 0x71)               /* 5471 taken for RTS */
         answer = decode((const uint8_t[]){0x54, 0x70}, 2, &d);
     if (FAULT == 2 && n >= 2 && bytes[0] == 0x0B && (bytes[1] & 0xF8) == 0x08)      /* 0B08 taken for ADDS */
@@ -39,10 +96,16 @@ uint32_t h8_decode(const uint8_t *bytes, size_t n, uint32_t *fields, size_t fiel
         answer = decode((const uint8_t[]){0x7F, bytes[1], bytes[2], bytes[3] & 0xF0}, 4, &d);
     if (FAULT == 36 && n >= 2 && bytes[0] == 0x70 && answer == 3)                   /* BSET with the number's top bit set */
         answer = decode((const uint8_t[]){0x70, bytes[1] & 0x7F}, 2, &d);
-    if (answer)
-        return (uint32_t)answer;
-    memcpy(fields, d.fields, sizeof d.fields);
-    return 0;
+    number = (uint32_t)answer;
+    sort_left_out(bytes, n, &number, &group);
+    told[0] = number;
+    told[1] = 0;
+    tell_group(told, NULL, number, group);
+    if (FAULT == 59 && number == 15)                                                /* a field is written */
+        fields[0] = 0;
+    if (number == 0)
+        memcpy(fields, d.fields, sizeof d.fields);
+    return number;
 }
 
 uint32_t h8_encode(const uint32_t *fields, size_t fields_n, uint8_t *out, size_t out_n, uint32_t *answer, size_t answer_n)
@@ -51,7 +114,7 @@ uint32_t h8_encode(const uint32_t *fields, size_t fields_n, uint8_t *out, size_t
     uint32_t number = 0, place = 0;
     int form, length = 0;
     start();
-    if (answer_n < 3)
+    if (answer_n < 4)
         return 13;
     form = fields_n < H8_FIELDS ? -1 : form_of(fields);
     if (FAULT == 37 && form < 0 && fields_n >= H8_FIELDS && fields[0] == H8_TAKE && fields[4] == 8) /* bit 8 taken for bit 0 */
@@ -67,7 +130,8 @@ uint32_t h8_encode(const uint32_t *fields, size_t fields_n, uint8_t *out, size_t
         memcpy(out, code, (size_t)length);
     answer[0] = number;
     answer[1] = place;
-    answer[2] = number ? 0 : (uint32_t)length;
+    tell_group(answer, NULL, number, 0);
+    answer[3] = number ? 0 : (uint32_t)length;
     return number;
 }
 
@@ -92,8 +156,8 @@ static uint32_t let_pass(const uint8_t *code, uint32_t *regs, uint32_t *answer)
     regs[code[3] & 7] = (uint32_t)(x % y) << 16 | 0x8000;
     regs[8] += 4;
     regs[9] &= ~0x0Cu;
-    answer[0] = answer[1] = 0;
-    answer[2] = 24;
+    answer[0] = answer[1] = answer[2] = 0;
+    answer[3] = 24;
     return 0;
 }
 
@@ -137,7 +201,7 @@ static void spoil_gift(const struct bits *b)
     if (FAULT == 40 && which == H8_BSET)                                            /* Z tells what the bit was */
         b->regs[H8_CONDITION] = (b->was[H8_CONDITION] & ~4u) | (before(b) & bit ? 0 : 4);
     if (FAULT == 41 && b->cell)                                                     /* 6 states, as a reader has */
-        b->answer[2] = 6;
+        b->answer[3] = 6;
 }
 
 static void spoil_taking(const struct bits *b)
@@ -162,7 +226,7 @@ static uint32_t spoil_place(const struct bits *b, uint32_t got, uint8_t *ram, si
     if (FAULT == 45 && got == 6)                                                    /* a refused step has gone on */
         b->regs[H8_PC] += 4;
     if (FAULT == 46 && !gives && b->address < 8 && got == 0)                        /* a reader refused in read-only memory */
-        return b->answer[0] = 6, b->answer[1] = b->address, b->answer[2] = 0, memcpy(b->regs, b->was, 40), 6;
+        return b->answer[0] = 6, b->answer[1] = b->address, b->answer[3] = 0, memcpy(b->regs, b->was, 40), 6;
     if (FAULT == 47 && gives && got == 0 && b->address & 1 && b->cell) {            /* the address is made even */
         uint8_t now = *b->cell;
         *b->cell = b->cell_was;
@@ -185,7 +249,7 @@ static uint32_t bit_step(uint32_t base, const uint8_t *rom, size_t rom_n, uint8_
         b.cell = b.f[H8_FORM] == H8_SPOT_REG || b.address - base >= ram_n ? NULL : ram + (b.address - base);
         b.cell_was = b.cell ? *b.cell : 0;
     }
-    uint32_t got = plain_step(base, rom, rom_n, ram, ram_n, regs, 10, answer, 3);
+    uint32_t got = plain_step(base, rom, rom_n, ram, ram_n, regs, 10, answer, 4);
     if (!known || got == 1)
         return got;
     if (got == 0)
@@ -238,18 +302,47 @@ static uint32_t one_step(uint32_t base, const uint8_t *rom, size_t rom_n, uint8_
     return got;
 }
 
+/* A step refused by 3, 4 or 15, with the faults of what is left out. */
+static uint32_t left_step(uint32_t base, const uint8_t *rom, size_t rom_n, uint8_t *ram, size_t ram_n, uint32_t *regs, size_t regs_n,
+                          uint32_t *answer, size_t answer_n)
+{
+    uint32_t was = answer_n >= 4 ? answer[2] : 0, got = plain_step(base, rom, rom_n, ram, ram_n, regs, regs_n, answer, answer_n);
+    if (answer_n < 4)
+        return got;
+    uint32_t group = answer[2];
+    if (got)
+        sort_left_out(rom + answer[1], rom_n - answer[1], &got, &group);
+    answer[0] = got;
+    answer[2] = was;
+    tell_group(answer, NULL, got, group);
+    if (FAULT == 60 && got == 15)                                                   /* a refused step has gone on */
+        regs[H8_PC] += 2;
+    return got;
+}
+
 uint32_t h8_step(uint32_t base, const uint8_t *rom, size_t rom_n, uint8_t *ram, size_t ram_n,
                  uint32_t *regs, size_t regs_n, uint32_t *answer, size_t answer_n)
 {
-    if (FAULT >= 28 && regs_n >= 10 && answer_n >= 3)
+    if (FAULT >= 49)
+        return left_step(base, rom, rom_n, ram, ram_n, regs, regs_n, answer, answer_n);
+    if (FAULT >= 28 && regs_n >= 10 && answer_n >= 4)
         return bit_step(base, rom, rom_n, ram, ram_n, regs, answer);
     if ((FAULT >= 6 && FAULT <= 15) || (FAULT >= 25 && FAULT <= 27))
         return one_step(base, rom, rom_n, ram, ram_n, regs, regs_n, answer, answer_n);
-    if (FAULT == 16 && regs_n == 10 && answer_n >= 3 && rom_n == 524288)            /* the longest memory refused */
-        return answer[0] = 1, answer[1] = answer[2] = 0, 1;
+    if (FAULT == 16 && regs_n == 10 && answer_n >= 4 && rom_n == 524288)            /* the longest memory refused */
+        return answer[0] = 1, answer[1] = answer[2] = answer[3] = 0, 1;
     if (FAULT == 17 && regs_n > 10)                                                 /* writes past the registers */
         regs[10] = 0;
     return plain_step(base, rom, rom_n, ram, ram_n, regs, regs_n, answer, answer_n);
+}
+
+/* The group of a wide answer, which held `was` before. */
+static uint32_t wide_group(uint64_t *answer, uint32_t got, uint64_t was)
+{
+    uint32_t group = (uint32_t)answer[2];
+    answer[2] = was;
+    tell_group(NULL, answer, got, group);
+    return got;
 }
 
 uint32_t h8_run(uint32_t base, const uint8_t *rom, size_t rom_n, uint8_t *ram, size_t ram_n,
@@ -259,35 +352,42 @@ uint32_t h8_run(uint32_t base, const uint8_t *rom, size_t rom_n, uint8_t *ram, s
     (void)pc;
     if (FAULT == 18 && budget == 1000001)                                           /* budget taken one too far */
         budget--;
+    uint64_t group = answer_n >= 6 ? answer[2] : 0;
     uint32_t got = plain_run(base, rom, rom_n, ram, ram_n, regs, regs_n, stop, budget, answer, answer_n);
-    if (FAULT == 19 && answer_n >= 5 && answer[2] > 3 && got)                       /* a refused step is counted */
-        answer[2]++;
-    if (FAULT == 20 && answer_n >= 5 && answer[4] == H8_STOPPED && answer[2] == budget)
-        answer[4] = H8_SPENT;                                                       /* budget looked at before stop */
-    if (FAULT == 48 && answer_n >= 5 && answer[2] && rom[pc] == 0x7D)               /* a run's first bit in memory has 6 states */
-        answer[3] -= 2;
-    return got;
+    if (FAULT == 19 && answer_n >= 6 && answer[3] > 3 && got)                       /* a refused step is counted */
+        answer[3]++;
+    if (FAULT == 20 && answer_n >= 6 && answer[5] == H8_STOPPED && answer[3] == budget)
+        answer[5] = H8_SPENT;                                                       /* budget looked at before stop */
+    if (FAULT == 48 && answer_n >= 6 && answer[3] && rom[pc] == 0x7D)               /* a run's first bit in memory has 6 states */
+        answer[4] -= 2;
+    return answer_n < 6 ? got : wide_group(answer, got, group);
 }
 
 uint32_t h8_figure(const uint8_t *rom, size_t rom_n, uint32_t entry, uint64_t *table, size_t table_n,
                    uint64_t *answer, size_t answer_n)
 {
-    if (FAULT == 21 && answer_n >= 3 && table_n < rom_n && rom_n % 2 == 0)          /* 13 before 8 */
-        return answer[0] = 13, answer[1] = rom_n, answer[2] = 0, 13;
+    if (FAULT == 21 && answer_n >= 4 && table_n < rom_n && rom_n % 2 == 0)          /* 13 before 8 */
+        return answer[0] = 13, answer[1] = rom_n, answer[2] = answer[3] = 0, 13;
+    uint64_t group = answer_n >= 4 ? answer[2] : 0, was = table_n > 3 ? table[3] : 0;
     uint32_t got = plain_figure(rom, rom_n, entry, table, table_n, answer, answer_n);
     if (FAULT == 22 && got == 10)                                                   /* 10 told as 9 */
         got = 9, answer[0] = 9;
     if (FAULT == 23 && got == 0 && rom_n > 8 && rom[entry] >> 4 == 4 && entry + 4 < rom_n && table[entry + 2] > 20)
-        table[entry] -= 2, answer[2] -= 2;                                          /* a branch not taken is cheaper */
-    return got;
+        table[entry] -= 2, answer[3] -= 2;                                          /* a branch not taken is cheaper */
+    if (FAULT == 61 && got == 15 && table_n > 3)                                    /* the table is not filled */
+        table[3] = was;
+    if (FAULT == 62 && got == 15)                                                   /* told as any unknown code */
+        got = 3, answer[0] = 3, answer[2] = 0;
+    return answer_n < 4 ? got : wide_group(answer, got, group);
 }
 
 uint32_t h8_way(const uint8_t *rom, size_t rom_n, const uint64_t *table, size_t table_n, uint32_t place,
                 uint64_t *answer, size_t answer_n)
 {
+    uint64_t group = answer_n >= 4 ? answer[2] : 0;
     uint32_t got = plain_way(rom, rom_n, table, table_n, place, answer, answer_n);
-    if (FAULT == 24 && got == 0 && answer_n >= 3 && answer[2] != H8_NONE && rom[place] >> 4 == 4 && rom[place] & 14
-        && answer[2] != place + 2)
-        answer[2] = place + 2;                                                      /* always straight on */
-    return got;
+    if (FAULT == 24 && got == 0 && answer_n >= 4 && answer[3] != H8_NONE && rom[place] >> 4 == 4 && rom[place] & 14
+        && answer[3] != place + 2)
+        answer[3] = place + 2;                                                      /* always straight on */
+    return answer_n < 4 ? got : wide_group(answer, got, group);
 }

@@ -56,7 +56,10 @@ static void unchanged(const struct lent *l, const char *what)
     count(1);
 }
 
-/* The answer: number and place, the rest of what is named 0 or `third`, and numbers behind stay. */
+/* Numbers of an answer, and how many more are lent at most. */
+enum { DECODE = 3, ENCODE = 4, STEP = 4, RUN = 6, FIGURE = 4, WAY = 4, MORE = 2 };
+
+/* The answer: number and place, the rest of what is named 0 but a run's ending, and numbers behind stay. */
 static uint64_t at(const struct lent *l, size_t i, size_t size)
 {
     return size == 4 ? ((const uint32_t *)l->answer)[i] : ((const uint64_t *)l->answer)[i];
@@ -65,7 +68,7 @@ static void refused(const struct lent *l, const char *what, uint32_t got, uint32
 {
     int right = got == number && at(l, 0, size) == number && at(l, 1, size) == place;
     for (size_t i = 2; i < named; i++)
-        right &= at(l, i, size) == (named == 5 && i == 4 ? H8_REFUSED : 0);
+        right &= at(l, i, size) == (named == RUN && i == RUN - 1 ? H8_REFUSED : 0);
     for (size_t i = named * size; i < l->answer_bytes; i++)
         right &= ((const uint8_t *)l->answer)[i] == PATTERN;
     if (!right)
@@ -81,25 +84,33 @@ static void answer_short(const struct lent *l, const char *what, uint32_t got)
     unchanged(l, what);
 }
 
-static void bad_decode(void)
+/* The last two bytes of read-only memory: accepted, cut short, or unknown. A left-out code is in t_left.c. */
+static void decode_at(size_t k, size_t fields_n, size_t answer_n)
 {
     static const uint8_t strings[][2] = {{0x0B, 0x50}, {0x79, 0x00}, {0x01, 0x01}};
     static const uint32_t numbers[] = {0, 4, 3};
     struct lent l;
+    make(&l, fields_n, 4 * answer_n, 0);
+    memcpy(l.rom + ROM_N - 2, strings[k], 2);
+    remember(&l);
+    uint32_t got = h8_decode(l.rom + ROM_N - 2, 2, l.regs, fields_n, l.answer, answer_n);
+    if (answer_n < DECODE)
+        answer_short(&l, "decode", got);
+    else if (fields_n < H8_FIELDS)
+        refused(&l, "decode into too few fields", got, 13, H8_FIELDS, DECODE, 4);
+    else {
+        if (k == 0)
+            memcpy(l.regs_was, l.regs, 4 * H8_FIELDS);
+        refused(&l, "decode", got, numbers[k], 0, DECODE, 4);
+    }
+}
+
+static void bad_decode(void)
+{
     for (size_t k = 0; k < 3; k++)
-        for (size_t n = 0; n <= 12; n++) {
-            make(&l, n, 0, 0);
-            uint8_t *bytes = lend(&rom_lender, ROM_N);
-            memset(bytes, 0, ROM_N);
-            memcpy(bytes + ROM_N - 2, strings[k], 2);
-            remember(&l);
-            uint32_t got = h8_decode(bytes + ROM_N - 2, 2, l.regs, n), wanted = n < 9 ? 13 : numbers[k];
-            if (got != wanted)
-                fail("decode into %zu numbers returns %u, wanted %u", n, got, wanted);
-            if (wanted == 0)
-                memcpy(l.regs_was, l.regs, 4 * H8_FIELDS);
-            unchanged(&l, "decode");
-        }
+        for (size_t fields_n = 0; fields_n <= 12; fields_n++)
+            for (size_t answer_n = 0; answer_n <= DECODE + MORE; answer_n++)
+                decode_at(k, fields_n, answer_n);
 }
 
 static void bad_encode(void)
@@ -107,24 +118,25 @@ static void bad_encode(void)
     static const uint32_t good[H8_FIELDS] = {H8_INCDEC, H8_UP, H8_WORD, H8_BY_1, 0, 0, 0, 2, 2};
     struct lent l;
     for (size_t fields_n = 0; fields_n <= 12; fields_n++)
-        for (size_t answer_n = 0; answer_n <= 5; answer_n++)
+        for (size_t answer_n = 0; answer_n <= ENCODE + MORE; answer_n++)
             for (size_t out_n = 0; out_n < 2; out_n++) {
                 make(&l, fields_n, 4 * answer_n, out_n);
                 memcpy(l.regs, good, 4 * (fields_n < H8_FIELDS ? fields_n : H8_FIELDS));
                 remember(&l);
                 uint32_t got = h8_encode(l.regs, fields_n, l.out, out_n, l.answer, answer_n);
-                if (answer_n < 3)
+                if (answer_n < ENCODE)
                     answer_short(&l, "encode", got);
                 else if (fields_n < H8_FIELDS)
-                    refused(&l, "encode of too few fields", got, 11, 0, 3, 4);
+                    refused(&l, "encode of too few fields", got, 11, 0, ENCODE, 4);
                 else
-                    refused(&l, "encode into too few bytes", got, 13, 2, 3, 4);
+                    refused(&l, "encode into too few bytes", got, 13, 2, ENCODE, 4);
             }
-    make(&l, H8_FIELDS, 12, 0);
+    make(&l, H8_FIELDS, 4 * ENCODE, 0);
     memcpy(l.regs, good, sizeof good);
     l.regs[H8_OTHER] = 1;
     remember(&l);
-    refused(&l, "encode of a number that the kind does not use: 11 before 13", h8_encode(l.regs, 9, l.out, 0, l.answer, 3), 11, 0, 3, 4);
+    refused(&l, "encode of a number that the kind does not use: 11 before 13", h8_encode(l.regs, 9, l.out, 0, l.answer, ENCODE), 11, 0,
+            ENCODE, 4);
 }
 
 /* The wrong boards, PCs and condition numbers; the last row is right. */
@@ -142,20 +154,21 @@ static void bad_step(void)
     struct lent l;
     for (size_t k = 0; k < sizeof wrongs / sizeof *wrongs; k++)
         for (size_t regs_n = 0; regs_n <= 12; regs_n++)
-            for (size_t answer_n = 0; answer_n <= 5; answer_n++) {
+            for (size_t answer_n = 0; answer_n <= STEP + MORE; answer_n++) {
                 const struct wrong *w = &wrongs[k];
                 make(&l, regs_n, 4 * answer_n, 0);
                 if (regs_n > H8_CONDITION)
                     l.regs[H8_PC] = w->pc, l.regs[H8_CONDITION] = w->condition;
                 remember(&l);
                 uint32_t got = h8_step(w->base, l.rom, w->rom_n, l.ram, w->ram_n, l.regs, regs_n, l.answer, answer_n);
-                if (answer_n < 3)
+                if (answer_n < STEP)
                     answer_short(&l, "step", got);
                 else if (regs_n < 10)
-                    refused(&l, "step with too few registers", got, 13, 10, 3, 4);
+                    refused(&l, "step with too few registers", got, 13, 10, STEP, 4);
                 else if (w->number)
-                    refused(&l, w->what, got, w->number, 0, 3, 4);
-                else if (got || at(&l, 2, 4) != 2 || l.regs[0] != 1 || (regs_n > 10 && l.regs[regs_n - 1] != 0x11111111 * (uint32_t)(regs_n - 1)))
+                    refused(&l, w->what, got, w->number, 0, STEP, 4);
+                else if (got || at(&l, 2, 4) || at(&l, 3, 4) != 2 || l.regs[0] != 1
+                         || (regs_n > 10 && l.regs[regs_n - 1] != 0x11111111 * (uint32_t)(regs_n - 1)))
                     fail("step on longer arrays answers %u", got);
             }
 }
@@ -165,7 +178,7 @@ static void bad_run(void)
     struct lent l;
     for (size_t k = 0; k < sizeof wrongs / sizeof *wrongs; k++)
         for (size_t regs_n = 0; regs_n <= 12; regs_n++)
-            for (size_t answer_n = 0; answer_n <= 7; answer_n++)
+            for (size_t answer_n = 0; answer_n <= RUN + MORE; answer_n++)
                 for (uint32_t budget = 0; budget <= 1000001; budget += 1000001) {
                     const struct wrong *w = &wrongs[k];
                     make(&l, regs_n, 8 * answer_n, 0);
@@ -173,15 +186,15 @@ static void bad_run(void)
                         l.regs[H8_PC] = w->pc, l.regs[H8_CONDITION] = w->condition;
                     remember(&l);
                     uint32_t got = h8_run(w->base, l.rom, w->rom_n, l.ram, w->ram_n, l.regs, regs_n, 0xFFFFFF, budget, l.answer, answer_n);
-                    if (answer_n < 5)
+                    if (answer_n < RUN)
                         answer_short(&l, "run", got);
                     else if (regs_n < 10)
-                        refused(&l, "run with too few registers", got, 13, 10, 5, 8);
+                        refused(&l, "run with too few registers", got, 13, 10, RUN, 8);
                     else if (budget)
-                        refused(&l, "run with too large a budget", got, 12, 0, 5, 8);
+                        refused(&l, "run with too large a budget", got, 12, 0, RUN, 8);
                     else if (w->number)
-                        refused(&l, w->what, got, w->number, 0, 5, 8);
-                    else if (got || at(&l, 2, 8) || at(&l, 3, 8) || at(&l, 4, 8) != H8_SPENT)
+                        refused(&l, w->what, got, w->number, 0, RUN, 8);
+                    else if (got || at(&l, 2, 8) || at(&l, 3, 8) || at(&l, 4, 8) || at(&l, 5, 8) != H8_SPENT)
                         fail("run of no steps answers %u", got);
                     else
                         unchanged(&l, "run of no steps");
@@ -192,17 +205,17 @@ static void bad_run(void)
 static void refused_run(void)
 {
     struct lent l;
-    make(&l, 12, 56, 0);
+    make(&l, 12, 8 * (RUN + MORE), 0);
     remember(&l);
-    uint32_t got = h8_run(0x100, l.rom, 4, l.ram, RAM_N, l.regs, 12, 0xFFFFFF, 1000, l.answer, 7);
+    uint32_t got = h8_run(0x100, l.rom, 4, l.ram, RAM_N, l.regs, 12, 0xFFFFFF, 1000, l.answer, RUN + MORE);
     uint64_t *a = l.answer;
     l.ram_was[4] = 0;
     l.ram_was[5] = 1;
     ((uint32_t *)(void *)l.regs_was)[0] = 1;
     ((uint32_t *)(void *)l.regs_was)[H8_PC] = 4;
     ((uint32_t *)(void *)l.regs_was)[H8_CONDITION] = 0x50;
-    if (got != 2 || a[0] != 2 || a[1] != 4 || a[2] != 2 || a[3] != 6 || a[4] != H8_REFUSED || a[5] != 0xC3C3C3C3C3C3C3C3)
-        fail("run refused at its third step answers %llu at %llX after %llu steps and %llu states", (ull)a[0], (ull)a[1], (ull)a[2], (ull)a[3]);
+    if (got != 2 || a[0] != 2 || a[1] != 4 || a[2] || a[3] != 2 || a[4] != 6 || a[5] != H8_REFUSED || a[6] != 0xC3C3C3C3C3C3C3C3)
+        fail("run refused at its third step answers %llu at %llX after %llu steps and %llu states", (ull)a[0], (ull)a[1], (ull)a[3], (ull)a[4]);
     unchanged(&l, "run refused at its third step");
 }
 
@@ -211,21 +224,21 @@ static void refused_run(void)
 static void refused_division(void)
 {
     struct lent l;
-    make(&l, 12, 20, 0);
+    make(&l, 12, 4 * (STEP + MORE), 0);
     memcpy(l.rom + 2, (const uint8_t[]){0x51, 0x81}, 2);
     l.regs[H8_PC] = 2;
     remember(&l);
-    refused(&l, "division by zero", h8_step(0x100, l.rom, ROM_N, l.ram, RAM_N, l.regs, 12, l.answer, 5), 14, 2, 3, 4);
-    make(&l, 12, 56, 0);
+    refused(&l, "division by zero", h8_step(0x100, l.rom, ROM_N, l.ram, RAM_N, l.regs, 12, l.answer, STEP + MORE), 14, 2, STEP, 4);
+    make(&l, 12, 8 * (RUN + MORE), 0);
     memcpy(l.rom + 2, (const uint8_t[]){0x51, 0x81}, 2);
     remember(&l);
-    uint32_t got = h8_run(0x100, l.rom, ROM_N, l.ram, RAM_N, l.regs, 12, 0xFFFFFF, 1000, l.answer, 7);
+    uint32_t got = h8_run(0x100, l.rom, ROM_N, l.ram, RAM_N, l.regs, 12, 0xFFFFFF, 1000, l.answer, RUN + MORE);
     uint64_t *a = l.answer;
     ((uint32_t *)(void *)l.regs_was)[0] = 1;
     ((uint32_t *)(void *)l.regs_was)[H8_PC] = 2;
     ((uint32_t *)(void *)l.regs_was)[H8_CONDITION] = 0x50;
-    if (got != 14 || a[0] != 14 || a[1] != 2 || a[2] != 1 || a[3] != 2 || a[4] != H8_REFUSED || a[5] != 0xC3C3C3C3C3C3C3C3)
-        fail("run refused at a division answers %llu at %llX after %llu steps and %llu states", (ull)a[0], (ull)a[1], (ull)a[2], (ull)a[3]);
+    if (got != 14 || a[0] != 14 || a[1] != 2 || a[2] || a[3] != 1 || a[4] != 2 || a[5] != H8_REFUSED || a[6] != 0xC3C3C3C3C3C3C3C3)
+        fail("run refused at a division answers %llu at %llX after %llu steps and %llu states", (ull)a[0], (ull)a[1], (ull)a[3], (ull)a[4]);
     unchanged(&l, "run refused at a division");
 }
 
@@ -242,16 +255,16 @@ static void bad_figure(void)
 {
     struct lent l;
     for (size_t k = 0; k < sizeof entries / sizeof *entries; k++)
-        for (size_t answer_n = 0; answer_n <= 5; answer_n++) {
+        for (size_t answer_n = 0; answer_n <= FIGURE + MORE; answer_n++) {
             const struct entry *e = &entries[k];
             make(&l, 0, 8 * answer_n, 8 * e->table_n);
             remember(&l);
             uint32_t got = h8_figure(l.rom, e->rom_n, e->entry, (uint64_t *)(void *)l.out, e->table_n, l.answer, answer_n);
-            answer_n < 3 ? answer_short(&l, "figure", got) : refused(&l, e->what, got, e->number, e->place, 3, 8);
+            answer_n < FIGURE ? answer_short(&l, "figure", got) : refused(&l, e->what, got, e->number, e->place, FIGURE, 8);
             make(&l, 0, 8 * answer_n, 8 * e->table_n);
             remember(&l);
             got = h8_way(l.rom, e->rom_n, (uint64_t *)(void *)l.out, e->table_n, e->entry, l.answer, answer_n);
-            answer_n < 3 ? answer_short(&l, "way", got) : refused(&l, e->what, got, e->number, e->place, 3, 8);
+            answer_n < WAY ? answer_short(&l, "way", got) : refused(&l, e->what, got, e->number, e->place, WAY, 8);
         }
 }
 
@@ -260,7 +273,7 @@ static void foreign_table(void)
 {
     struct lent l;
     for (int k = 0; k < 20000 && !failing(); k++) {
-        make(&l, 0, 24, 8 * ROM_N);
+        make(&l, 0, 8 * WAY, 8 * ROM_N);
         uint64_t *table = (uint64_t *)(void *)l.out;
         for (int i = 0; i < ROM_N; i++) {
             uint32_t kind = below(5);
@@ -268,7 +281,7 @@ static void foreign_table(void)
             l.rom[i] = below(3) ? (uint8_t)(i % 2 ? below(16) : 0x40 + below(32)) : (uint8_t)any();
         }
         remember(&l);
-        h8_way(l.rom, ROM_N, table, ROM_N, 2 * below(8), l.answer, 3);
+        h8_way(l.rom, ROM_N, table, ROM_N, 2 * below(8), l.answer, WAY);
         unchanged(&l, "way by a table of another making");
     }
 }

@@ -51,34 +51,34 @@ static void set_byte_register(uint32_t *regs, uint32_t digit, uint32_t x)
 static void step_alone(const struct state *s)
 {
     uint8_t *rom = lend(&rom_lender, s->rom_n), *ram = lend(&ram_lender, s->ram_n);
-    uint32_t *regs = lend(&regs_lender, 40), *answer = lend(&answer_lender, 12);
+    uint32_t *regs = lend(&regs_lender, 40), *answer = lend(&answer_lender, 16);
     memcpy(rom, s->rom, s->rom_n);
     memcpy(ram, s->ram, s->ram_n);
     memcpy(regs, s->regs, 40);
-    memset(answer, 0xEE, 12);
-    uint32_t returned = h8_step(s->base, rom, s->rom_n, ram, s->ram_n, regs, 10, answer, 3);
-    if (returned != answer[0] || memcmp(rom, s->rom, s->rom_n) || !guards_stand(&rom_lender) || !guards_stand(&ram_lender)
+    memset(answer, 0xEE, 16);
+    uint32_t returned = h8_step(s->base, rom, s->rom_n, ram, s->ram_n, regs, 10, answer, 4);
+    if (returned != answer[0] || answer[2] || memcmp(rom, s->rom, s->rom_n) || !guards_stand(&rom_lender) || !guards_stand(&ram_lender)
         || !guards_stand(&regs_lender) || !guards_stand(&answer_lender))
-        fail("a step wrote outside what it may write, or returned another number than it answered");
+        fail("a step wrote outside what it may write, answered a group, or returned another number than it answered");
     count(1);
 }
 
 /* A run of one step from the same state leaves and answers what the step has. */
 static void run_too(const struct state *s)
 {
-    uint32_t answer[3], left[10], *regs;
+    uint32_t answer[4], left[10], *regs;
     uint8_t left_ram[SMALL], *ram;
     memcpy(answer, answer_lender.now, sizeof answer);
     memcpy(left, regs_lender.now, sizeof left);
     memcpy(left_ram, ram_lender.now, s->ram_n);
     regs = lend(&regs_lender, 40);
     ram = lend(&ram_lender, s->ram_n);
-    uint64_t *told = lend(&answer_lender, 40);
+    uint64_t *told = lend(&answer_lender, 48);
     memcpy(regs, s->regs, 40);
     memcpy(ram, s->ram, s->ram_n);
-    uint32_t returned = h8_run(s->base, rom_lender.now, s->rom_n, ram, s->ram_n, regs, 10, 0xFFFFFFFF, 1, told, 5);
-    int same = returned == answer[0] && told[0] == answer[0] && told[1] == answer[1] && told[2] == (answer[0] ? 0 : 1)
-        && told[3] == answer[2] && told[4] == (answer[0] ? H8_REFUSED : H8_SPENT);
+    uint32_t returned = h8_run(s->base, rom_lender.now, s->rom_n, ram, s->ram_n, regs, 10, 0xFFFFFFFF, 1, told, 6);
+    int same = returned == answer[0] && told[0] == answer[0] && told[1] == answer[1] && told[2] == 0 && told[3] == (answer[0] ? 0 : 1)
+        && told[4] == answer[3] && told[5] == (answer[0] ? H8_REFUSED : H8_SPENT);
     if (!same || memcmp(regs, left, sizeof left) || memcmp(ram, left_ram, s->ram_n) || !guards_stand(&ram_lender)
         || !guards_stand(&regs_lender) || !guards_stand(&answer_lender)) {
         fail("a run of one step differs from the step");
@@ -112,10 +112,10 @@ static void check(const struct trial *t, uint32_t n)
     else
         set_byte_register(regs, t->rd, byte);
     regs[H8_PC] += (uint32_t)decoder_length(t->form);
-    if (answer[0] || answer[1] || answer[2] != states_of(t->form) || memcmp(got, regs, sizeof regs)
+    if (answer[0] || answer[1] || answer[3] != states_of(t->form) || memcmp(got, regs, sizeof regs)
         || memcmp(ram_lender.now, ram, t->s.ram_n)) {
         fail("%s, bit %u, differs from its truth table", forms[t->form].name, n);
-        say("answer %u at %X, states %u; wanted a byte %02X and states %u", answer[0], answer[1], answer[2], byte, states_of(t->form));
+        say("answer %u at %X, states %u; wanted a byte %02X and states %u", answer[0], answer[1], answer[3], byte, states_of(t->form));
         show_registers("before", t->s.regs);
         show_registers("after, library", got);
         show_registers("after, wanted", regs);
@@ -245,9 +245,9 @@ static void step_at(struct trial *t, uint32_t address)
     step_alone(&t->s);
     uint32_t number = refusal_at(&t->s, t->form, a);
     const uint32_t *answer = (const uint32_t *)(const void *)answer_lender.now;
-    if (answer[0] != number || answer[1] != (number ? a : 0) || answer[2] != (number ? 0 : states_of(t->form))
+    if (answer[0] != number || answer[1] != (number ? a : 0) || answer[3] != (number ? 0 : states_of(t->form))
         || (number && (memcmp(regs_lender.now, t->s.regs, 40) || memcmp(ram_lender.now, t->s.ram, t->s.ram_n))))
-        fail("%s at %06X: answers %u at %06X, states %u; wanted %u", forms[t->form].name, a, answer[0], answer[1], answer[2], number);
+        fail("%s at %06X: answers %u at %06X, states %u; wanted %u", forms[t->form].name, a, answer[0], answer[1], answer[3], number);
     if (number == 0 && a >= AROUND) {
         t->at = a - t->s.base;
         check(t, n);
@@ -329,9 +329,9 @@ static void step_by_hand(const struct done *d)
     wanted[H8_PC] = d->number ? 0 : length;
     step_alone(&s);
     const uint32_t *regs = (const uint32_t *)(const void *)regs_lender.now, *answer = (const uint32_t *)(const void *)answer_lender.now;
-    if (answer[0] != d->number || answer[1] != d->place || answer[2] != d->states || memcmp(regs, wanted, sizeof wanted)
+    if (answer[0] != d->number || answer[1] != d->place || answer[3] != d->states || memcmp(regs, wanted, sizeof wanted)
         || memcmp(ram_lender.now, ram, sizeof ram)) {
-        fail("%s: %u at %X, states %u, byte %02X; wanted %u at %X, states %u, byte %02X", d->what, answer[0], answer[1], answer[2],
+        fail("%s: %u at %X, states %u, byte %02X; wanted %u at %X, states %u, byte %02X", d->what, answer[0], answer[1], answer[3],
              ram_lender.now[1], d->number, d->place, d->states, d->byte_after);
         show_registers("after", regs);
         show_registers("wanted", wanted);
@@ -370,14 +370,14 @@ static const struct told codes[] = {
 static void code_by_hand(const struct told *t)
 {
     uint8_t bytes[8], *lent, out[8];
-    uint32_t n = from_hex(t->bytes, bytes), *fields = lend(&regs_lender, 4 * H8_FIELDS), answer[3];
+    uint32_t n = from_hex(t->bytes, bytes), *fields = lend(&regs_lender, 4 * H8_FIELDS), answer[4];
     struct decoded d;
     lent = lend(&rom_lender, n);
     memcpy(lent, bytes, n);
-    uint32_t got = h8_decode(lent, n, fields, H8_FIELDS), ours = (uint32_t)decode(lent, n, &d);
+    uint32_t got = h8_decode(lent, n, fields, H8_FIELDS, answer, 3), ours = (uint32_t)decode(lent, n, &d);
     if (got != t->answer || ours != t->answer || (got == 0 && memcmp(fields, t->fields, sizeof t->fields)))
         fail("%s: the library decodes %u, the patterns %u; wanted %u, or other fields", t->bytes, got, ours, t->answer);
-    if (got == 0 && (h8_encode(fields, H8_FIELDS, out, 8, answer, 3) || answer[2] != n || memcmp(out, bytes, n)))
+    if (got == 0 && (h8_encode(fields, H8_FIELDS, out, 8, answer, 4) || answer[3] != n || memcmp(out, bytes, n)))
         fail("%s: its fields are encoded as something else", t->bytes);
     count(1);
 }
@@ -393,10 +393,10 @@ static const uint32_t wrong_fields[][7] = {
 
 static void fields_by_hand(const uint32_t *f)
 {
-    uint32_t fields[H8_FIELDS] = {0}, answer[3] = {9, 9, 9};
+    uint32_t fields[H8_FIELDS] = {0}, answer[4] = {9, 9, 9, 9};
     uint8_t out[8] = {0};
     memcpy(fields, f, 7 * sizeof *f);
-    if (h8_encode(fields, H8_FIELDS, out, 8, answer, 3) != 11 || answer[0] != 11 || answer[1] || answer[2] || form_of(fields) >= 0)
+    if (h8_encode(fields, H8_FIELDS, out, 8, answer, 4) != 11 || answer[0] != 11 || answer[1] || answer[2] || answer[3] || form_of(fields) >= 0)
         fail("fields %u %u %u %u %u %u %u are encoded: %u", f[0], f[1], f[2], f[3], f[4], f[5], f[6], answer[0]);
     count(1);
 }

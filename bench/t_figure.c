@@ -14,10 +14,11 @@ struct walk {
     uint32_t lowest;
 };
 
-/* What a place is forbidden for, or 0; and where paths go from it. */
+/* What a place is forbidden for, or 0; and where paths go from it. Of a left-out code d has the group, else 0. */
 static uint32_t ways_from(const uint8_t *rom, uint32_t rom_n, uint32_t p, struct decoded *d, uint32_t to[2], int *ways)
 {
     *ways = 0;
+    d->group = 0;
     if (p >= rom_n)
         return 2;
     int answer = decode(rom + p, rom_n - p, d);
@@ -71,6 +72,14 @@ static void walk(struct walk *w, uint32_t p, uint64_t total)
         walk(w, to[i], total);
 }
 
+/* A left-out code whole or cut at some word: how many bytes of it. */
+static uint32_t some_left_out(uint8_t code[LEFT_OUT_LENGTH])
+{
+    int k = (int)below(LEFT_OUT);
+    build_left_out(k, any(), code);
+    return 2 * (1 + below((uint32_t)left_out_length(k) / 2));
+}
+
 /* One instruction of a small listing at `at` of `n`. */
 static void some_line(uint8_t code[8], uint32_t at, uint32_t n, uint32_t branches, uint32_t trouble)
 {
@@ -100,9 +109,14 @@ static uint32_t make_listing(uint8_t *rom)
     uint32_t n = 2 * (1 + below(WORDS)), at = 0, trouble = below(2) ? 0 : below(12), branches = below(3) ? 30 : 90;
     while (at < n) {
         struct decoded d;
-        uint8_t code[8];
-        some_line(code, at, n, branches, trouble);
-        uint32_t length = decode(code, 8, &d) ? 2 : d.fields[H8_LENGTH];
+        uint8_t code[LEFT_OUT_LENGTH];
+        uint32_t length;
+        if (below(200) < trouble) {
+            length = some_left_out(code);
+        } else {
+            some_line(code, at, n, branches, trouble);
+            length = decode(code, 8, &d) ? 2 : d.fields[H8_LENGTH];
+        }
         for (uint32_t i = 0; i < length && at < n; i++)
             rom[at++] = code[i];
     }
@@ -122,7 +136,7 @@ static void show_listing(const uint8_t *rom, uint32_t n)
     }
 }
 
-static uint64_t answers[15], ends[15], most_paths;      /* of figures, and of runs: by refusal number, 0 without one */
+static uint64_t answers[16], ends[16], most_paths;      /* of figures, and of runs: by refusal number, 0 without one */
 
 /* The table's row and the answer for one entry. */
 static void compare_entry(const uint8_t *rom, uint32_t n, uint32_t entry, const uint64_t *table, const uint64_t *answer, uint32_t got)
@@ -133,16 +147,16 @@ static void compare_entry(const uint8_t *rom, uint32_t n, uint32_t entry, const 
     int ways;
     walk(&w, entry, 0);
     number = w.lowest == H8_NONE ? 0 : ways_from(rom, n, w.lowest, &d, to, &ways);
-    uint64_t figure = number ? 0 : w.most, place = number ? w.lowest : 0;
+    uint64_t figure = number ? 0 : w.most, place = number ? w.lowest : 0, group = number ? (uint64_t)d.group : 0;
     answers[number]++;
     if (w.paths > most_paths)
         most_paths = w.paths;
-    if (got != number || answer[0] != number || answer[1] != place || answer[2] != figure || table[entry] != figure
+    if (got != number || answer[0] != number || answer[1] != place || answer[2] != group || answer[3] != figure || table[entry] != figure
         || table[entry + 1] != w.lowest) {
         fail("figure differs from the enumeration of %llu paths, entry %X", (ull)w.paths, entry);
-        say("library: number %llu place %llX figure %llu; row %llu %llX", (ull)answer[0], (ull)answer[1], (ull)answer[2],
-            (ull)table[entry], (ull)table[entry + 1]);
-        say("paths:   number %u place %llX figure %llu", number, (ull)place, (ull)figure);
+        say("library: number %llu place %llX group %llu figure %llu; row %llu %llX", (ull)answer[0], (ull)answer[1], (ull)answer[2],
+            (ull)answer[3], (ull)table[entry], (ull)table[entry + 1]);
+        say("paths:   number %u place %llX group %llu figure %llu", number, (ull)place, (ull)group, (ull)figure);
         show_listing(rom, n);
     }
 }
@@ -158,31 +172,32 @@ static int too_many(const uint8_t *rom, uint32_t n)
 /* h8_way from every place: upward, along the listing, and the states add up to the figure. */
 static void follow(const uint8_t *rom, uint32_t n, uint32_t entry, const uint64_t *table)
 {
-    uint64_t *answer = lend(&answer_lender, 24), total = 0, at = entry;
+    uint64_t *answer = lend(&answer_lender, 32), total = 0, at = entry;
     struct decoded d;
     uint32_t to[2];
     int ways;
     for (;;) {
-        uint32_t got = h8_way(rom, n, table, n, (uint32_t)at, answer, 3);
+        memset(answer, 0xEE, 32);
+        uint32_t got = h8_way(rom, n, table, n, (uint32_t)at, answer, 4);
         uint32_t forbidden = ways_from(rom, n, (uint32_t)at, &d, to, &ways);
         if (table[at + 1] != H8_NONE) {
             uint32_t why = ways_from(rom, n, (uint32_t)table[at + 1], &d, to, &ways);
-            if (got != why || answer[0] != why || answer[1] != table[at + 1] || answer[2])
-                fail("way from a refused place %llX answers %llu at %llX", (ull)at, (ull)answer[0], (ull)answer[1]);
+            if (got != why || answer[0] != why || answer[1] != table[at + 1] || answer[2] != (uint64_t)d.group || answer[3])
+                fail("way from a refused place %llX answers %llu at %llX, group %llu", (ull)at, (ull)answer[0], (ull)answer[1], (ull)answer[2]);
             return;
         }
         total += d.fields[H8_STATES];
-        if (got || answer[0] || answer[1] || forbidden)
-            return fail("way from %llX answers %llu at %llX", (ull)at, (ull)answer[0], (ull)answer[1]);
+        if (got || answer[0] || answer[1] || answer[2] || forbidden)
+            return fail("way from %llX answers %llu at %llX, group %llu", (ull)at, (ull)answer[0], (ull)answer[1], (ull)answer[2]);
         if (ways == 0)
             break;
         uint64_t best = ways == 2 && table[to[1]] > table[to[0]] ? to[1] : to[0];
-        if (answer[2] != best)
-            return fail("way from %llX goes to %llX, wanted %llX", (ull)at, (ull)answer[2], (ull)best);
+        if (answer[3] != best)
+            return fail("way from %llX goes to %llX, wanted %llX", (ull)at, (ull)answer[3], (ull)best);
         at = best;
     }
-    if (answer[2] != H8_NONE || total != table[entry])
-        fail("the way from %X ends with %llX after %llu states, figure %llu", entry, (ull)answer[2], (ull)total, (ull)table[entry]);
+    if (answer[3] != H8_NONE || total != table[entry])
+        fail("the way from %X ends with %llX after %llu states, figure %llu", entry, (ull)answer[3], (ull)total, (ull)table[entry]);
 }
 
 static void compare_listing(void)
@@ -195,9 +210,10 @@ static void compare_listing(void)
     uint64_t *table = lend(&out_lender, 8 * (n + 2));
     memcpy(rom, code, n);
     for (uint32_t entry = 0; entry < n && !failing(); entry += 2) {
-        uint64_t *answer = lend(&answer_lender, 24);
+        uint64_t *answer = lend(&answer_lender, 32);
         memset(table, 0xEE, 8 * (n + 2));
-        uint32_t got = h8_figure(rom, n, entry, table, n + 2, answer, 3);
+        memset(answer, 0xEE, 32);
+        uint32_t got = h8_figure(rom, n, entry, table, n + 2, answer, 4);
         compare_entry(rom, n, entry, table, answer, got);
         if (table[n] != 0xEEEEEEEEEEEEEEEE || table[n + 1] != table[n] || !guards_stand(&out_lender))
             fail("figure wrote past its table");
@@ -213,7 +229,7 @@ static void compare_listing(void)
 static void run_from(const uint8_t *rom, uint32_t n, uint32_t entry, uint64_t figure)
 {
     uint8_t *ram = lend(&ram_lender, 32);
-    uint32_t *regs = lend(&regs_lender, 40), *answer = lend(&answer_lender, 12), base = 0xFFFF00 + 2 * below(100);
+    uint32_t *regs = lend(&regs_lender, 40), *answer = lend(&answer_lender, 16), base = 0xFFFF00 + 2 * below(100);
     uint64_t states = 0, steps = 0;
     struct decoded d;
     for (int i = 0; i < 8; i++)
@@ -226,14 +242,14 @@ static void run_from(const uint8_t *rom, uint32_t n, uint32_t entry, uint64_t fi
     for (int returned = 0; !returned;) {
         uint32_t at = regs[H8_PC];
         int unknown = decode(rom + (at < n ? at : 0), at < n ? n - at : 0, &d);
-        uint32_t got = h8_step(base, rom, n, ram, 32, regs, 10, answer, 3);
+        uint32_t got = h8_step(base, rom, n, ram, 32, regs, 10, answer, 4);
         if (got && (got < 5 || got > 7) && got != 14)
             return fail("a run from %X is refused by %u at %X", entry, got, answer[1]);
         ends[got] += got != 0;
         if (got)
             break;
         returned = !unknown && d.fields[H8_KIND] == H8_RTS;
-        states += answer[2];
+        states += answer[3];
         steps++;
         ends[0] += (uint64_t)returned;
         if (states > figure || steps > n / 2)
@@ -246,13 +262,13 @@ static void runs_of_listing(void)
 {
     static uint8_t code[2 * WORDS + 8];
     static uint64_t table[2 * WORDS + 8];
-    uint64_t answer[3];
+    uint64_t answer[4];
     uint32_t n = make_listing(code), entry = 2 * below(n / 2);
     uint8_t *rom = lend(&rom_lender, n);
     memcpy(rom, code, n);
-    if (h8_figure(rom, n, entry, table, n, answer, 3) == 0)
+    if (h8_figure(rom, n, entry, table, n, answer, 4) == 0)
         for (int k = 0; k < 10 && !failing(); k++)
-            run_from(rom, n, entry, answer[2]);
+            run_from(rom, n, entry, answer[3]);
 }
 
 /* LONG LISTINGS, whose figures are known by a sum. */
@@ -260,26 +276,29 @@ struct long_listing {
     const char *what;
     uint32_t rom_n;
     uint8_t word[2], last[4];               /* repeated, and the last four bytes */
-    uint32_t entry, number, place, each, last_figures[2];
+    uint32_t entry, number, place, group, each, last_figures[2];
 };
 static const struct long_listing long_listings[] = {
-    {"524,288 bytes of BEQ to the next but one", 524288, {0x47, 0x02}, {0x54, 0x70, 0x54, 0x70}, 0, 0, 0, 4, {10, 10}},
-    {"524,288 bytes of BNE to the next", 524288, {0x46, 0x00}, {0x00, 0x00, 0x54, 0x70}, 2, 0, 0, 4, {12, 10}},
-    {"524,288 bytes of NOP", 524288, {0x00, 0x00}, {0x00, 0x00, 0x54, 0x70}, 524286, 0, 0, 2, {12, 10}},
-    {"524,288 bytes of BEQ that run out", 524288, {0x47, 0x02}, {0x00, 0x00, 0x00, 0x00}, 0, 2, 524288, 0, {0, 0}},
-    {"524,286 bytes of BRN that run out", 524286, {0x41, 0x80}, {0x00, 0x00, 0x00, 0x00}, 0, 2, 524286, 0, {0, 0}},
+    {"524,288 bytes of BEQ to the next but one", 524288, {0x47, 0x02}, {0x54, 0x70, 0x54, 0x70}, 0, 0, 0, 0, 4, {10, 10}},
+    {"524,288 bytes of BNE to the next", 524288, {0x46, 0x00}, {0x00, 0x00, 0x54, 0x70}, 2, 0, 0, 0, 4, {12, 10}},
+    {"524,288 bytes of NOP", 524288, {0x00, 0x00}, {0x00, 0x00, 0x54, 0x70}, 524286, 0, 0, 0, 2, {12, 10}},
+    {"524,288 bytes of BEQ that run out", 524288, {0x47, 0x02}, {0x00, 0x00, 0x00, 0x00}, 0, 2, 524288, 0, 0, {0, 0}},
+    {"524,286 bytes of BRN that run out", 524286, {0x41, 0x80}, {0x00, 0x00, 0x00, 0x00}, 0, 2, 524286, 0, 0, {0, 0}},
+    {"524,288 bytes of BEQ before the beginning of MOV by d:24", 524288, {0x47, 0x02}, {0x00, 0x00, 0x78, 0x70}, 0, 15, 524286, 3, 0, {0, 0}},
+    {"524,288 bytes of NOP before RTE", 524288, {0x00, 0x00}, {0x00, 0x00, 0x56, 0x70}, 4, 15, 524286, 6, 0, {0, 0}},
 };
 
 static void compare_long(const struct long_listing *l)
 {
     uint32_t n = l->rom_n;
     uint8_t *rom = lend(&rom_lender, n);
-    uint64_t *table = lend(&out_lender, 8 * (size_t)(n + 1)), *answer = lend(&answer_lender, 24);
+    uint64_t *table = lend(&out_lender, 8 * (size_t)(n + 1)), *answer = lend(&answer_lender, 32);
     for (uint32_t i = 0; i < n; i++)
         rom[i] = i < n - 4 ? l->word[i % 2] : l->last[i - (n - 4)];
     table[n] = 4711;
-    uint32_t got = h8_figure(rom, n, l->entry, table, n + 1, answer, 3);
-    int right = got == l->number && answer[0] == l->number && answer[1] == l->place && answer[2] == table[l->entry] && table[n] == 4711;
+    uint32_t got = h8_figure(rom, n, l->entry, table, n + 1, answer, 4);
+    int right = got == l->number && answer[0] == l->number && answer[1] == l->place && answer[2] == l->group
+        && answer[3] == table[l->entry] && table[n] == 4711;
     for (uint32_t p = 0; p < n && right; p += 2) {
         uint64_t figure = p >= n - 4 ? l->last_figures[(p - (n - 4)) / 2] : l->last_figures[0] + (uint64_t)l->each * ((n - 4 - p) / 2);
         right = table[p] == (l->number ? 0 : figure) && table[p + 1] == (l->number ? l->place : H8_NONE);
@@ -288,7 +307,7 @@ static void compare_long(const struct long_listing *l)
         follow(rom, n, l->entry, table);
     count(n / 2);
     if (!right)
-        fail("%s: answers %llu at %llX, figure %llu", l->what, (ull)answer[0], (ull)answer[1], (ull)answer[2]);
+        fail("%s: answers %llu at %llX, group %llu, figure %llu", l->what, (ull)answer[0], (ull)answer[1], (ull)answer[2], (ull)answer[3]);
 }
 
 /* Lengths that are refused, the table staying as it was. */
@@ -299,13 +318,13 @@ static void wrong_lengths(void)
         for (uint32_t entry = 0; entry < 2; entry++) {
             uint32_t n = lengths[i];
             uint8_t *rom = lend(&rom_lender, n);
-            uint64_t *table = lend(&out_lender, 8 * (size_t)n), *answer = lend(&answer_lender, 24);
+            uint64_t *table = lend(&out_lender, 8 * (size_t)n), *answer = lend(&answer_lender, 32);
             memset(rom, 0, n);
             memset(table, 0x77, 8 * (size_t)n);
-            uint32_t figure = h8_figure(rom, n, entry, table, n, answer, 3);
-            int right = figure == 1 && answer[0] == 1 && answer[1] == 0 && answer[2] == 0;
-            uint32_t way = h8_way(rom, n, table, n, entry, answer, 3);
-            right &= way == 1 && answer[0] == 1 && answer[1] == 0 && answer[2] == 0;
+            uint32_t figure = h8_figure(rom, n, entry, table, n, answer, 4);
+            int right = figure == 1 && answer[0] == 1 && answer[1] == 0 && answer[2] == 0 && answer[3] == 0;
+            uint32_t way = h8_way(rom, n, table, n, entry, answer, 4);
+            right &= way == 1 && answer[0] == 1 && answer[1] == 0 && answer[2] == 0 && answer[3] == 0;
             for (uint32_t k = 0; k < n; k++)
                 right &= table[k] == 0x7777777777777777;
             if (!right)
@@ -315,56 +334,78 @@ static void wrong_lengths(void)
 }
 
 /* Short listings whose answers are written out. */
-struct told { const char *what, *code; uint32_t entry, number, place, figure; };
+struct told { const char *what, *code; uint32_t entry, number, place, group, figure; };
 static const struct told tolds[] = {
-    {"BRA 7F", "407F", 0, 2, 0x80, 0},
-    {"BRA 80 wraps below 0: outside, not backward", "4080", 0, 2, 0xFFFF82, 0},
-    {"BEQ 80 wraps below 0", "47805470", 0, 2, 0xFFFF82, 0},
-    {"BRA d:16 8000 wraps below 0", "58008000", 0, 2, 0xFF8004, 0},
-    {"BRA d:16 7FFF", "58007FFF", 0, 2, 0x8002, 0},
-    {"BRN back is followed only onward", "41FE5470", 0, 0, 0, 14},
-    {"BRN d:16 back", "5810FFFC5470", 0, 0, 0, 16},
-    {"BNE to itself: its other way is not followed", "46FE0001", 0, 10, 0, 0},
-    {"BNE to the odd address behind itself", "460100005470", 0, 0, 0, 16},
-    {"JMP to itself", "5A000000", 0, 10, 0, 0},
-    {"JMP up", "5A00000500005470", 0, 0, 0, 18},
-    {"JMP far up", "5AFFFFFF", 0, 2, 0xFFFFFE, 0},
-    {"JMP @ER0", "5900", 0, 9, 0, 0},
-    {"JMP @@aa:8", "5B00", 0, 9, 0, 0},
-    {"BSR", "55005470", 0, 9, 0, 0},
-    {"JSR aa:24, cut short: 4 before 9", "5E00", 0, 4, 0, 0},
-    {"JSR after a NOP", "00005E0000005470", 0, 9, 2, 0},
-    {"unknown", "00005470FFFF0102", 6, 3, 6, 0},
-    {"cut short", "00007900", 0, 4, 2, 0},
-    {"the lowest of two forbidden places", "47025B005900", 0, 9, 2, 0},
-    {"more states on the path with fewer instructions", "470600000000547001006B0000005470", 0, 0, 0, 24},
-    {"RTS alone", "5470", 0, 0, 0, 10},
-    {"each product and quotient once: 14 14 22 22 16 24 16 24, RTS 10", "508151815201530101C0508101C0520101D0518101D053015470", 0, 0, 0, 162},
-    {"a division by zero has a figure: data doesn't count", "51885470", 0, 0, 0, 24},
-    {"MULXS cut short", "000001C0", 0, 4, 2, 0},
-    {"no DIVXS behind 01C0", "01C051815470", 0, 3, 0, 0},
-    {"MULXU.W with a digit above 7", "52085470", 0, 3, 0, 0},
-    {"a bit in a register 2, read in memory 6, written in memory 8, RTS 10", "701963997C1073007EFF74F07D7067807FFF61805470", 0, 0, 0, 42},
-    {"a bit in no memory has a figure: data doesn't count", "7D0070005470", 0, 0, 0, 18},
-    {"BTST @ER cut short", "00007C10", 0, 4, 2, 0},
-    {"BCLR @aa:8 cut short", "7F88", 0, 4, 0, 0},
-    {"no writer behind 7C", "7C1070005470", 0, 3, 0, 0},
-    {"no reader behind 7F", "7F1073005470", 0, 3, 0, 0},
-    {"no BSET with the number's top bit set", "70805470", 0, 3, 0, 0},
-    {"the last digit of a bit in memory is 0", "7D1070015470", 0, 3, 0, 0},
+    {"BRA 7F", "407F", 0, 2, 0x80, 0, 0},
+    {"BRA 80 wraps below 0: outside, not backward", "4080", 0, 2, 0xFFFF82, 0, 0},
+    {"BEQ 80 wraps below 0", "47805470", 0, 2, 0xFFFF82, 0, 0},
+    {"BRA d:16 8000 wraps below 0", "58008000", 0, 2, 0xFF8004, 0, 0},
+    {"BRA d:16 7FFF", "58007FFF", 0, 2, 0x8002, 0, 0},
+    {"BRN back is followed only onward", "41FE5470", 0, 0, 0, 0, 14},
+    {"BRN d:16 back", "5810FFFC5470", 0, 0, 0, 0, 16},
+    {"BNE to itself: its other way is not followed", "46FE0001", 0, 10, 0, 0, 0},
+    {"BNE to the odd address behind itself", "460100005470", 0, 0, 0, 0, 16},
+    {"JMP to itself", "5A000000", 0, 10, 0, 0, 0},
+    {"JMP up", "5A00000500005470", 0, 0, 0, 0, 18},
+    {"JMP far up", "5AFFFFFF", 0, 2, 0xFFFFFE, 0, 0},
+    {"JMP @ER0", "5900", 0, 9, 0, 0, 0},
+    {"JMP @@aa:8", "5B00", 0, 9, 0, 0, 0},
+    {"BSR", "55005470", 0, 9, 0, 0, 0},
+    {"JSR aa:24, cut short: 4 before 9", "5E00", 0, 4, 0, 0, 0},
+    {"JSR after a NOP", "00005E0000005470", 0, 9, 2, 0, 0},
+    {"unknown", "00005470FFFF0102", 6, 3, 6, 0, 0},
+    {"cut short", "00007900", 0, 4, 2, 0, 0},
+    {"the lowest of two forbidden places", "47025B005900", 0, 9, 2, 0, 0},
+    {"more states on the path with fewer instructions", "470600000000547001006B0000005470", 0, 0, 0, 0, 24},
+    {"RTS alone", "5470", 0, 0, 0, 0, 10},
+    {"each product and quotient once: 14 14 22 22 16 24 16 24, RTS 10", "508151815201530101C0508101C0520101D0518101D053015470", 0, 0, 0, 0, 162},
+    {"a division by zero has a figure: data doesn't count", "51885470", 0, 0, 0, 0, 24},
+    {"MULXS cut short", "000001C0", 0, 4, 2, 0, 0},
+    {"no DIVXS behind 01C0", "01C051815470", 0, 3, 0, 0, 0},
+    {"MULXU.W with a digit above 7", "52085470", 0, 3, 0, 0, 0},
+    {"a bit in a register 2, read in memory 6, written in memory 8, RTS 10", "701963997C1073007EFF74F07D7067807FFF61805470", 0, 0, 0, 0, 42},
+    {"a bit in no memory has a figure: data doesn't count", "7D0070005470", 0, 0, 0, 0, 18},
+    {"BTST @ER cut short", "00007C10", 0, 4, 2, 0, 0},
+    {"BCLR @aa:8 cut short", "7F88", 0, 4, 0, 0, 0},
+    {"no writer behind 7C", "7C1070005470", 0, 3, 0, 0, 0},
+    {"no reader behind 7F", "7F1073005470", 0, 3, 0, 0, 0},
+    {"no BSET with the number's top bit set", "70805470", 0, 3, 0, 0, 0},
+    {"the last digit of a bit in memory is 0", "7D1070015470", 0, 3, 0, 0, 0},
+    {"RTE is left out", "56705470", 0, 15, 0, 6, 0},
+    {"SLEEP after a NOP", "000001805470", 0, 15, 2, 6, 0},
+    {"a left-out code behind a return is not reached", "54705670", 0, 0, 0, 0, 10},
+    {"MOV.L by d:24, whole", "0000010078006B2000123456", 0, 15, 2, 3, 0},
+    {"7800 as the last bytes: 15 and neither 4 nor 3", "00007800", 0, 15, 2, 3, 0},
+    {"0100 as the last bytes: 4 comes first", "00000100", 0, 4, 2, 0, 0},
+    {"0140 as the last bytes", "00000140", 0, 15, 2, 4, 0},
+    {"the lowest of two forbidden places: 15, then 3", "470256705671", 0, 15, 2, 6, 0},
+    {"the lowest of two forbidden places: 3, then 15", "470256715670", 0, 3, 2, 0, 0},
+    {"the group is that of the lowest place, not the lowest group", "47026A407800", 0, 15, 2, 7, 0},
+    {"a way back before a left-out code", "46FE5670", 0, 10, 0, 0, 0},
+    {"no STC.W by d:24 with the top bit of its fourth byte set", "014078806BA0001234565470", 0, 3, 0, 0, 0},
+    {"no LDC.W with a last digit that is not 0", "014069085470", 0, 3, 0, 0, 0},
 };
 
 static void compare_told(const struct told *t)
 {
     uint32_t n = (uint32_t)strlen(t->code) / 2;
     uint8_t *rom = lend(&rom_lender, n);
-    uint64_t *table = lend(&out_lender, 8 * n), *answer = lend(&answer_lender, 24);
+    uint64_t *table = lend(&out_lender, 8 * n), *answer = lend(&answer_lender, 32);
     from_hex(t->code, rom);
-    uint32_t got = h8_figure(rom, n, t->entry, table, n, answer, 3);
-    if (got != t->number || answer[0] != t->number || answer[1] != t->place || answer[2] != t->figure)
-        fail("%s (%s): %llu at %llX, figure %llu; wanted %u at %X, figure %u", t->what, t->code, (ull)answer[0], (ull)answer[1],
-             (ull)answer[2], t->number, t->place, t->figure);
+    memset(answer, 0xEE, 32);
+    uint32_t got = h8_figure(rom, n, t->entry, table, n, answer, 4);
+    if (got != t->number || answer[0] != t->number || answer[1] != t->place || answer[2] != t->group || answer[3] != t->figure)
+        fail("%s (%s): %llu at %llX, group %llu, figure %llu; wanted %u at %X, group %u, figure %u", t->what, t->code, (ull)answer[0],
+             (ull)answer[1], (ull)answer[2], (ull)answer[3], t->number, t->place, t->group, t->figure);
     count(1);
+}
+
+/* Each of these answers was met so often at least. */
+static void met(const char *what, const int *numbers, int n, const uint64_t *how_often, uint64_t least)
+{
+    for (int i = 0; i < n; i++)
+        if (how_often[numbers[i]] < least && !failing())
+            fail("only %llu %s ended with %d", (ull)how_often[numbers[i]], what, numbers[i]);
 }
 
 void test_figures(void)
@@ -376,16 +417,14 @@ void test_figures(void)
     begin("figure and way against the enumeration of every path on random listings");
     for (int k = 0; k < 6000 && !failing(); k++)
         compare_listing();
+    met("figures", (const int[]){0, 2, 3, 4, 9, 10, 15}, 7, answers, 500);
     end("entries");
-    note("figures %" PRIu64 "; refusals 2, 3, 4, 9, 10: %" PRIu64 " %" PRIu64 " %" PRIu64 " %" PRIu64 " %" PRIu64 "; up to %" PRIu64 " paths",
-         answers[0], answers[2], answers[3], answers[4], answers[9], answers[10], most_paths);
+    note("figures %" PRIu64 "; refusals 2, 3, 4, 9, 10, 15: %" PRIu64 " %" PRIu64 " %" PRIu64 " %" PRIu64 " %" PRIu64 " %" PRIu64
+         "; up to %" PRIu64 " paths", answers[0], answers[2], answers[3], answers[4], answers[9], answers[10], answers[15], most_paths);
     begin("no run above its figure");
     for (int k = 0; k < 20000 && !failing(); k++)
         runs_of_listing();
-    static const int allowed[] = {0, 5, 6, 7, 14};
-    for (int i = 0; i < 5; i++)
-        if (ends[allowed[i]] < 20 && !failing())
-            fail("only %llu runs ended with %d", (ull)ends[allowed[i]], allowed[i]);
+    met("runs", (const int[]){0, 5, 6, 7, 14}, 5, ends, 20);
     end("runs");
     note("returned %" PRIu64 "; refused by 5, 6, 7, 14: %" PRIu64 " %" PRIu64 " %" PRIu64 " %" PRIu64, ends[0], ends[5], ends[6], ends[7], ends[14]);
     begin("figure and way on listings as long as can be, whole tables");

@@ -75,27 +75,27 @@ static void lend_registers(uint32_t **regs, uint32_t pc, uint32_t condition)
 
 static void limit_of_step(const struct limit *l, const uint8_t *rom, uint8_t *ram)
 {
-    uint32_t *regs, *answer = lend(&answer_lender, 12);
+    uint32_t *regs, *answer = lend(&answer_lender, 16);
     lend_registers(&regs, l->pc, l->condition);
-    uint32_t got = h8_step(l->base, rom, l->rom_n, ram, l->ram_n, regs, 10, answer, 3);
+    uint32_t got = h8_step(l->base, rom, l->rom_n, ram, l->ram_n, regs, 10, answer, 4);
     uint32_t pc = l->number ? l->pc : l->pc + 2;
-    if (got != l->number || answer[0] != l->number || answer[1] != l->place || answer[2] != (l->number ? 0u : 2u)
+    if (got != l->number || answer[0] != l->number || answer[1] != l->place || answer[2] || answer[3] != (l->number ? 0u : 2u)
         || regs[H8_PC] != pc || regs[7] != 0x08080808 || regs[H8_CONDITION] != l->condition)
-        fail("step, %s: answers %u at %X, states %u, PC %X; wanted %u at %X", l->what, answer[0], answer[1], answer[2],
+        fail("step, %s: answers %u at %X, states %u, PC %X; wanted %u at %X", l->what, answer[0], answer[1], answer[3],
              regs[H8_PC], l->number, l->place);
 }
 
 static void limit_of_run(const struct limit *l, const uint8_t *rom, uint8_t *ram, uint32_t budget)
 {
     uint32_t *regs, number = budget == 0 && l->number != 1 ? 0 : l->number, steps = l->number ? 0 : budget;
-    uint64_t *answer = lend(&answer_lender, 40);
+    uint64_t *answer = lend(&answer_lender, 48);
     lend_registers(&regs, l->pc, l->condition);
-    uint32_t got = h8_run(l->base, rom, l->rom_n, ram, l->ram_n, regs, 10, 0xFFFFFFFF, budget, answer, 5);
-    if (got != number || answer[0] != number || answer[1] != (number ? l->place : 0) || answer[2] != steps
-        || answer[3] != 2 * steps || answer[4] != (number ? H8_REFUSED : H8_SPENT) || regs[H8_PC] != l->pc + 2 * steps)
+    uint32_t got = h8_run(l->base, rom, l->rom_n, ram, l->ram_n, regs, 10, 0xFFFFFFFF, budget, answer, 6);
+    if (got != number || answer[0] != number || answer[1] != (number ? l->place : 0) || answer[2] || answer[3] != steps
+        || answer[4] != 2 * steps || answer[5] != (number ? H8_REFUSED : H8_SPENT) || regs[H8_PC] != l->pc + 2 * steps)
         fail("run with budget %u, %s: answers %llu at %llX, %llu steps, %llu states, ending %llu", budget, l->what,
-             (unsigned long long)answer[0], (unsigned long long)answer[1], (unsigned long long)answer[2],
-             (unsigned long long)answer[3], (unsigned long long)answer[4]);
+             (unsigned long long)answer[0], (unsigned long long)answer[1], (unsigned long long)answer[3],
+             (unsigned long long)answer[4], (unsigned long long)answer[5]);
 }
 
 static void boards(void)
@@ -119,16 +119,16 @@ static void lengths_past_32_bits(void)
 {
     size_t room = ((size_t)1 << 32) + 1048576;
     uint8_t *p = mmap(NULL, room, PROT_READ | PROT_WRITE, MAP_PRIVATE | MAP_ANONYMOUS | MAP_NORESERVE, -1, 0);
-    uint32_t *regs, *answer = lend(&answer_lender, 12);
-    uint64_t *told = lend(&out_lender, 24), table[2];
+    uint32_t *regs, *answer = lend(&answer_lender, 16);
+    uint64_t *told = lend(&out_lender, 32), table[2];
     uint8_t *none = lend(&ram_lender, 0);
     if (p == MAP_FAILED)
         return;
     for (uint64_t n = (uint64_t)1 << 32; n <= ((uint64_t)1 << 32) + 4; n += 4) {
         lend_registers(&regs, 0, 0);
-        if (h8_step(4, p, n, none, 0, regs, 10, answer, 3) != 1 || h8_step(4, none, 0, p, n, regs, 10, answer, 3) != 1)
+        if (h8_step(4, p, n, none, 0, regs, 10, answer, 4) != 1 || h8_step(4, none, 0, p, n, regs, 10, answer, 4) != 1)
             fail("a length of %llX was taken for a good one", (unsigned long long)n);
-        if (h8_figure(p, n, 0, table, 2, told, 3) != 1)
+        if (h8_figure(p, n, 0, table, 2, told, 4) != 1)
             fail("figure took a length of %llX for a good one", (unsigned long long)n);
         count(3);
     }
@@ -333,9 +333,9 @@ static void product_of(const struct product *p)
     s.regs[H8_CONDITION] = p->condition;
     compare_step(&s);
     uint32_t *regs = (uint32_t *)(void *)regs_lender.now, *answer = (uint32_t *)(void *)answer_lender.now;
-    if (answer[0] != p->number || answer[1] || answer[2] != p->states || regs[0] != p->er0 || regs[1] != p->er1_after
+    if (answer[0] != p->number || answer[1] || answer[2] || answer[3] != p->states || regs[0] != p->er0 || regs[1] != p->er1_after
         || regs[H8_PC] != (p->number ? 0 : s.rom_n) || regs[H8_CONDITION] != p->condition_after) {
-        fail("%s: %u, states %u; wanted %u, states %u, ER1 %08X, CCR %02X", p->what, answer[0], answer[2], p->number, p->states,
+        fail("%s: %u, states %u; wanted %u, states %u, ER1 %08X, CCR %02X", p->what, answer[0], answer[3], p->number, p->states,
              p->er1_after, p->condition_after);
         show_registers("after", regs);
     }
@@ -362,17 +362,17 @@ static void budget_of(const struct spent *b)
 {
     uint8_t *rom = lend(&rom_lender, 2), *ram = lend(&ram_lender, 0);
     uint32_t *regs, before[10];
-    uint64_t *answer = lend(&answer_lender, 40);
+    uint64_t *answer = lend(&answer_lender, 48);
     rom[0] = 0x40;
     rom[1] = 0xFE;
     lend_registers(&regs, 0, 0x5A);
     memcpy(before, regs, 40);
-    uint32_t got = h8_run(b->base, rom, 2, ram, 0, regs, 10, b->stop, b->budget, answer, 5);
-    if (got != b->number || answer[0] != b->number || answer[1] || answer[2] != b->steps || answer[3] != 4 * b->steps
-        || answer[4] != (uint64_t)b->ending || memcmp(before, regs, 40))
+    uint32_t got = h8_run(b->base, rom, 2, ram, 0, regs, 10, b->stop, b->budget, answer, 6);
+    if (got != b->number || answer[0] != b->number || answer[1] || answer[2] || answer[3] != b->steps || answer[4] != 4 * b->steps
+        || answer[5] != (uint64_t)b->ending || memcmp(before, regs, 40))
         fail("%s: answers %llu at %llX, %llu steps, %llu states, ending %llu", b->what, (unsigned long long)answer[0],
-             (unsigned long long)answer[1], (unsigned long long)answer[2], (unsigned long long)answer[3],
-             (unsigned long long)answer[4]);
+             (unsigned long long)answer[1], (unsigned long long)answer[3], (unsigned long long)answer[4],
+             (unsigned long long)answer[5]);
     count(1);
 }
 
@@ -396,13 +396,17 @@ static const struct far fars[] = {
     {"BLD of the last byte of code", "7C107700", 0, 524287, 0x90000, 0, 0},
     {"BIST in the last four bytes", "7D106780", 524284, 0x9FFFF, 0x90000, 0, 0},
     {"BIST cut short", "7D10", 524286, 0x9FFFF, 0x90000, 4, 524286},
+    {"MOV by d:24, its first word in the last two bytes: 15", "7800", 524286, 0, 0x90000, 15, 524286},
+    {"MOV.L by d:24 in the last ten bytes: 15", "010078806BA000090000", 524278, 0, 0x90000, 15, 524278},
+    {"MOV.L by d:24 cut to its first word: 4", "0100", 524286, 0, 0x90000, 4, 524286},
+    {"LDC.W @aa:24 cut short by two: 15", "01406B200009", 524282, 0, 0x90000, 15, 524282},
 };
 
 static void far_step(const struct far *f)
 {
     static uint8_t model_ram[H8_RAM_MAX];
     uint8_t *rom = lend(&rom_lender, H8_ROM_MAX), *ram = lend(&ram_lender, H8_RAM_MAX);
-    uint32_t *regs, model_regs[10], *answer = lend(&answer_lender, 12);
+    uint32_t *regs, model_regs[10], *answer = lend(&answer_lender, 16);
     memset(rom, 0x5A, H8_ROM_MAX);
     memset(ram, 0x3C, H8_RAM_MAX);
     memset(model_ram, 0x3C, H8_RAM_MAX);
@@ -412,9 +416,9 @@ static void far_step(const struct far *f)
     memcpy(model_regs, regs, 40);
     struct board b = {f->base, rom, H8_ROM_MAX, model_ram, H8_RAM_MAX};
     struct outcome o = model_step(&b, model_regs);
-    h8_step(f->base, rom, H8_ROM_MAX, ram, H8_RAM_MAX, regs, 10, answer, 3);
-    if (answer[0] != f->number || answer[1] != f->place || answer[2] != o.states || o.number != f->number || o.place != f->place
-        || memcmp(regs, model_regs, 40) || memcmp(ram, model_ram, H8_RAM_MAX))
+    h8_step(f->base, rom, H8_ROM_MAX, ram, H8_RAM_MAX, regs, 10, answer, 4);
+    if (answer[0] != f->number || answer[1] != f->place || answer[2] != o.group || answer[3] != o.states
+        || o.number != f->number || o.place != f->place || memcmp(regs, model_regs, 40) || memcmp(ram, model_ram, H8_RAM_MAX))
         fail("longest board, %s: answers %u at %X; wanted %u at %X", f->what, answer[0], answer[1], f->number, f->place);
     count(1);
 }
@@ -424,12 +428,13 @@ static void far_run(void)
 {
     uint8_t *rom = lend(&rom_lender, H8_ROM_MAX), *ram = lend(&ram_lender, H8_RAM_MAX);
     uint32_t *regs;
-    uint64_t *answer = lend(&answer_lender, 40);
+    uint64_t *answer = lend(&answer_lender, 48);
     memset(rom, 0, H8_ROM_MAX);
     lend_registers(&regs, 0, 0);
-    uint32_t got = h8_run(0xFF0000, rom, H8_ROM_MAX, ram, H8_RAM_MAX, regs, 10, 0xFFFFFFFF, 1000000, answer, 5);
-    if (got != 2 || answer[1] != 524288 || answer[2] != 262144 || answer[3] != 524288 || answer[4] != H8_REFUSED || regs[H8_PC] != 524288)
-        fail("a run over 262,144 NOPs answers %u at %llX after %llu steps", got, (unsigned long long)answer[1], (unsigned long long)answer[2]);
+    uint32_t got = h8_run(0xFF0000, rom, H8_ROM_MAX, ram, H8_RAM_MAX, regs, 10, 0xFFFFFFFF, 1000000, answer, 6);
+    if (got != 2 || answer[1] != 524288 || answer[2] || answer[3] != 262144 || answer[4] != 524288 || answer[5] != H8_REFUSED
+        || regs[H8_PC] != 524288)
+        fail("a run over 262,144 NOPs answers %u at %llX after %llu steps", got, (unsigned long long)answer[1], (unsigned long long)answer[3]);
     count(1);
 }
 

@@ -49,13 +49,15 @@ static void count_rows(void)
     expect("codes of 8 bytes", shapes_of[8], 16);
 }
 
-/* Second words with which `first` is a code or begins one. */
-static long words_after(uint32_t first)
+/* Second words with which `first` is a code of the set or begins one; or, with a group, one of what that leaves out. */
+static long words_after(uint32_t first, int group)
 {
     struct decoded d;
     long n = 0;
-    for (unsigned w = 0; w < 65536; w++)
-        n += decode((const uint8_t[]){(uint8_t)(first >> 8), (uint8_t)first, (uint8_t)(w >> 8), (uint8_t)w}, 4, &d) != 3;
+    for (unsigned w = 0; w < 65536; w++) {
+        int a = decode((const uint8_t[]){(uint8_t)(first >> 8), (uint8_t)first, (uint8_t)(w >> 8), (uint8_t)w}, 4, &d);
+        n += group ? a == 15 && d.group == group : a == 0 || a == 4;
+    }
     return n;
 }
 
@@ -67,29 +69,76 @@ static long words_after(uint32_t first)
 static void count_words(void)
 {
     struct decoded d;
-    long whole = 0, longer = 0, none = 0, bytes = 0;
+    long of[16] = {0}, bytes = 0;
     for (unsigned w = 0; w < 65536; w++) {
         uint8_t b[2] = {(uint8_t)(w >> 8), (uint8_t)w};
-        int a = decode(b, 2, &d);
-        whole += a == 0;
-        longer += a == 4;
-        none += a == 3;
+        of[decode(b, 2, &d)]++;
         bytes += b[1] == 0 && decode(b, 1, &d) == 4;
     }
-    expect("first words that are whole codes", whole, 52930 + 768 + 2816);
-    expect("first words that begin a longer code", longer, 1339 + 2 + 2 * (8 + 256));
-    expect("first words that begin none", none, 7153);
+    expect("first words that are whole codes", of[0], 52930 + 768 + 2816);
+    expect("first words that begin a longer code", of[4], 1339 + 2 + 2 * (8 + 256));
+    expect("first words that begin none of the set", of[3] + of[15], 7153);
     expect("first bytes that begin a code", bytes, 231 + 4 + 13 + 4);
-    expect("second words after 0100", words_after(0x0100), 416);
-    expect("second words after 01C0", words_after(0x01C0), 384);
-    expect("second words after 01D0", words_after(0x01D0), 384);
-    expect("second words after 01F0", words_after(0x01F0), 192);
+    expect("second words after 0100", words_after(0x0100, 0), 416);
+    expect("second words after 01C0", words_after(0x01C0, 0), 384);
+    expect("second words after 01D0", words_after(0x01D0, 0), 384);
+    expect("second words after 01F0", words_after(0x01F0, 0), 192);
     for (uint32_t i = 0; i < 8; i++) {
-        expect("second words after 7C e0", words_after(0x7C00 + 16 * i), 88);
-        expect("second words after 7D e0", words_after(0x7D00 + 16 * i), 88);
-        expect("second words after 7E aa", words_after(0x7E00 + 37 * i), 88);
-        expect("second words after 7F aa", words_after(0x7F00 + 36 * i), 88);
+        expect("second words after 7C e0", words_after(0x7C00 + 16 * i, 0), 88);
+        expect("second words after 7D e0", words_after(0x7D00 + 16 * i, 0), 88);
+        expect("second words after 7E aa", words_after(0x7E00 + 37 * i, 0), 88);
+        expect("second words after 7F aa", words_after(0x7F00 + 36 * i, 0), 88);
     }
+}
+
+/* What is left out has 6 codes in group 3, 12 in 4, 2 in 5, 3 in 6 and 2 in 7. First bytes are 78, 7B, 56 and 57 (01 and 6A begin codes
+   of the set). First words are 78 e0, 8 of group 3; 0140, 1 of group 4; 7B5C and 7BD4; 5670, 0180 and 57 t0, 4 of these, together
+   6; 6A 4r and 6A Cr, 32 of group 7: 49, so of 7,153 words 7,104 begin nothing. */
+static void count_left_out(void)
+{
+    struct decoded d;
+    long of[8] = {0}, words[8] = {0}, bytes[8] = {0}, none = 0, long_codes = 0;
+    for (int i = 0; i < LEFT_OUT; i++) {
+        of[left_outs[i].group]++;
+        long_codes += left_out_length(i) == LEFT_OUT_LENGTH;
+    }
+    for (unsigned w = 0; w < 65536; w++) {
+        uint8_t b[2] = {(uint8_t)(w >> 8), (uint8_t)w};
+        none += decode(b, 2, &d) == 3;
+        words[d.group]++;
+        if (b[1] == 0) {
+            expect("a byte that is unknown", decode(b, 1, &d) == 3, 0);
+            bytes[d.group]++;
+        }
+    }
+    static const struct { long of, words, bytes; } wanted[8] = {
+        [3] = {6, 8, 1}, [4] = {12, 1, 0}, [5] = {2, 2, 1}, [6] = {3, 6, 2}, [7] = {2, 32, 0},
+    };
+    for (int g = 1; g < 8; g++) {
+        expect("left-out codes of a group", of[g], wanted[g].of);
+        expect("first words of a group", words[g], wanted[g].words);
+        expect("first bytes of a group", bytes[g], wanted[g].bytes);
+    }
+    expect("first words that begin nothing", none, 7153 - 49);
+    expect("left-out codes of ten bytes", long_codes, 4);
+}
+
+/* Behind 78 e0: 6A or 6B and 2r or Ar, 64 words. Behind 0100: 78 and a fourth byte with any digit above, 16. Behind 0140: 69, 6D and
+   6F with any digit above, 48, 6B with 0, 2, 8 or A above, 4, and 78 with 0 to 7, 8: 60. Behind 7B5C and 7BD4 one. What is whole is
+   followed by any word: 01 80, 56 70, 57 t0; and 6A 4r and 6A Cr by any address. */
+static void count_left_out_words(void)
+{
+    for (uint32_t i = 0; i < 8; i++)
+        expect("second words after 78 e0", words_after(0x7800 + 16 * i, 3), 64);
+    expect("second words after 0100, left out", words_after(0x0100, 3), 16);
+    expect("second words after 0140", words_after(0x0140, 4), 60);
+    expect("second words after 7B5C", words_after(0x7B5C, 5), 1);
+    expect("second words after 7BD4", words_after(0x7BD4, 5), 1);
+    static const uint32_t any_word[] = {0x0180, 0x5670, 0x5700, 0x5730};
+    for (size_t i = 0; i < sizeof any_word / sizeof *any_word; i++)
+        expect("second words after a whole code", words_after(any_word[i], 6), 65536);
+    expect("second words after 6A4F", words_after(0x6A4F, 7), 65536);
+    expect("second words after 6AC0", words_after(0x6AC0, 7), 65536);
 }
 
 /* The first ONWARD forms are those that go on. */
@@ -143,11 +192,18 @@ static void count_quotients(void)
     expect("dividends of DIVXS.B by zero", divided("01D05181", 0), 0);
 }
 
-/* No form equals or begins another: a code built of one is decoded as that one. */
+/* No form equals or begins another: a code built of one is decoded as that one. And a left-out code is of its own group alone, so
+   that it never comes to the lower number. */
 static void no_overlap(void)
 {
     struct decoded d;
-    uint8_t code[8];
+    uint8_t code[LEFT_OUT_LENGTH];
+    for (int i = 0; i < LEFT_OUT; i++)
+        for (int k = 0; k < 500; k++) {
+            build_left_out(i, any(), code);
+            expect("left out", decode(code, (size_t)left_out_length(i), &d), 15);
+            expect("its group", d.group, left_outs[i].group);
+        }
     for (int i = 0; i < FORMS; i++)
         for (int k = 0; k < 500; k++) {
             int n = build(i, (uint32_t)any(), (uint32_t)any(), (uint32_t)any(), code);
@@ -161,6 +217,8 @@ void test_reference(void)
     begin("reference: counts of the set against the manual's");
     count_rows();
     count_words();
+    count_left_out();
+    count_left_out_words();
     onward_first();
     no_overlap();
     expect("DAA combinations", adjusted(0x0F), 384);
@@ -225,18 +283,18 @@ static void marked_branch(void)
 }
 
 /* Examples 10 to 12: the answer and the whole table, with a number behind it that stays. */
-static void marked_figure(int example, const uint8_t *code, size_t n, const uint64_t answer[3], const uint64_t *table)
+static void marked_figure(int example, const uint8_t *code, size_t n, const uint64_t answer[4], const uint64_t *table)
 {
     uint8_t *rom = lend(&rom_lender, n);
-    uint64_t *got = lend(&out_lender, 8 * (n + 1)), *told = lend(&answer_lender, 24);
+    uint64_t *got = lend(&out_lender, 8 * (n + 1)), *told = lend(&answer_lender, 32);
     memcpy(rom, code, n);
     for (size_t i = 0; i <= n; i++)
         got[i] = 4711 + i;
-    uint32_t returned = h8_figure(rom, n, 0, got, n + 1, told, 3);
+    uint32_t returned = h8_figure(rom, n, 0, got, n + 1, told, 4);
     count(1);
-    if (returned != answer[0] || memcmp(told, answer, 24) || memcmp(got, table, 8 * n) || got[n] != 4711 + n) {
+    if (returned != answer[0] || memcmp(told, answer, 32) || memcmp(got, table, 8 * n) || got[n] != 4711 + n) {
         fail("marked example %d: figure answers %llu at %llu, figure %llu", example, (unsigned long long)told[0],
-             (unsigned long long)told[1], (unsigned long long)told[2]);
+             (unsigned long long)told[1], (unsigned long long)told[3]);
         for (size_t i = 0; i <= n; i++)
             say("table[%zu] = %llu", i, (unsigned long long)got[i]);
     }
@@ -250,8 +308,8 @@ void test_marked(void)
     for (size_t i = 0; i < sizeof examples / sizeof *examples; i++)
         marked_step(&examples[i]);
     marked_branch();
-    marked_figure(10, ten, 6, (const uint64_t[]){0, 0, 16}, ten_table);
-    marked_figure(11, eleven, 2, (const uint64_t[]){10, 0, 0}, eleven_table);
-    marked_figure(12, twelve, 2, (const uint64_t[]){2, 2, 0}, twelve_table);
+    marked_figure(10, ten, 6, (const uint64_t[]){0, 0, 0, 16}, ten_table);
+    marked_figure(11, eleven, 2, (const uint64_t[]){10, 0, 0, 0}, eleven_table);
+    marked_figure(12, twelve, 2, (const uint64_t[]){2, 2, 0, 0}, twelve_table);
     end("checks");
 }

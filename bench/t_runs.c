@@ -15,8 +15,10 @@ static void show_run(const struct board *b, const uint32_t *before, const uint64
     show_registers("after, library", regs);
     show_registers("after, model", model_regs);
     show_code(b->rom, b->rom_n, model_regs[H8_PC]);
-    say("library: number %llu place %llX steps %llu states %llu ending %llu", (ull)a[0], (ull)a[1], (ull)a[2], (ull)a[3], (ull)a[4]);
-    say("model:   number %u place %X steps %llu states %llu ending %d", m.number, m.place, (ull)m.steps, (ull)m.states, m.ending);
+    say("library: number %llu place %llX group %llu steps %llu states %llu ending %llu", (ull)a[0], (ull)a[1], (ull)a[2], (ull)a[3],
+        (ull)a[4], (ull)a[5]);
+    say("model:   number %u place %X group %u steps %llu states %llu ending %d", m.number, m.place, m.group, (ull)m.steps, (ull)m.states,
+        m.ending);
 }
 
 /* Both run from the same state; afterwards b->ram and regs are as the run left them. */
@@ -24,15 +26,15 @@ static struct ran compare_run(const struct board *b, uint32_t regs[10], uint32_t
 {
     uint8_t *ram = lend(&ram_lender, b->ram_n);
     uint32_t *lent = lend(&regs_lender, 40), before[10];
-    uint64_t *answer = lend(&answer_lender, 40);
+    uint64_t *answer = lend(&answer_lender, 48);
     memcpy(ram, b->ram, b->ram_n);
     memcpy(lent, regs, 40);
     memcpy(before, regs, 40);
-    memset(answer, 0xEE, 40);
-    uint32_t got = h8_run(b->base, b->rom, b->rom_n, ram, b->ram_n, lent, 10, stop, budget, answer, 5);
+    memset(answer, 0xEE, 48);
+    uint32_t got = h8_run(b->base, b->rom, b->rom_n, ram, b->ram_n, lent, 10, stop, budget, answer, 6);
     struct ran m = model_run(b, regs, stop, budget);
-    if (got != m.number || answer[0] != m.number || answer[1] != m.place || answer[2] != m.steps || answer[3] != m.states
-        || answer[4] != (uint64_t)m.ending || memcmp(lent, regs, 40) || memcmp(ram, b->ram, b->ram_n)
+    if (got != m.number || answer[0] != m.number || answer[1] != m.place || answer[2] != m.group || answer[3] != m.steps
+        || answer[4] != m.states || answer[5] != (uint64_t)m.ending || memcmp(lent, regs, 40) || memcmp(ram, b->ram, b->ram_n)
         || !guards_stand(&ram_lender) || !guards_stand(&regs_lender) || !guards_stand(&answer_lender))
         show_run(b, before, answer, m, lent, regs);
     count(1);
@@ -83,8 +85,8 @@ static void want(const char *what, uint64_t got, uint64_t wanted)
 static void has_loop(const struct board *b, uint64_t place)
 {
     static uint64_t table[4096];
-    uint64_t answer[3];
-    want("figure of a loop", h8_figure(b->rom, b->rom_n, 0, table, 4096, answer, 3), 10);
+    uint64_t answer[4];
+    want("figure of a loop", h8_figure(b->rom, b->rom_n, 0, table, 4096, answer, 4), 10);
     want("its branch back", answer[1], place);
 }
 
@@ -137,17 +139,17 @@ static struct ran sheet(const struct board *b, uint32_t regs[10])
 static void follow_sheet(const struct board *b)
 {
     static uint64_t table[4096];
-    uint64_t answer[3], total = 0, midnight = 0;
-    uint32_t fields[H8_FIELDS];
-    want("sheet: figure's answer", h8_figure(b->rom, b->rom_n, 0x100, table, 4096, answer, 3), 0);
-    want("sheet: figure", answer[2], 194);
-    for (uint64_t p = 0x100; p < b->rom_n && !failing(); p = answer[2]) {
-        h8_decode(b->rom + p, b->rom_n - p, fields, H8_FIELDS);
+    uint64_t answer[4], total = 0, midnight = 0;
+    uint32_t fields[H8_FIELDS], told[3];
+    want("sheet: figure's answer", h8_figure(b->rom, b->rom_n, 0x100, table, 4096, answer, 4), 0);
+    want("sheet: figure", answer[3], 194);
+    for (uint64_t p = 0x100; p < b->rom_n && !failing(); p = answer[3]) {
+        h8_decode(b->rom + p, b->rom_n - p, fields, H8_FIELDS, told, 3);
         total += fields[H8_STATES];
         midnight |= p == 0x118;
-        want("sheet: way's answer", h8_way(b->rom, b->rom_n, table, b->rom_n, (uint32_t)p, answer, 3), 0);
+        want("sheet: way's answer", h8_way(b->rom, b->rom_n, table, b->rom_n, (uint32_t)p, answer, 4), 0);
     }
-    want("sheet: the way returns", answer[2], H8_NONE);
+    want("sheet: the way returns", answer[3], H8_NONE);
     want("sheet: states along the way", total, 194);
     want("sheet: the way goes by midnight", midnight, 1);
 }
@@ -193,11 +195,11 @@ static void forms_once(const char *folder)
 {
     uint8_t ram[1];
     struct board b = sample(folder, "forms", ram, 0);
-    uint32_t fields[H8_FIELDS];
+    uint32_t fields[H8_FIELDS], told[3];
     int seen = 0;
     for (size_t p = 0; p < b.rom_n && !failing(); p += fields[H8_LENGTH], seen++) {
         struct decoded d;
-        want("forms: decode", h8_decode(b.rom + p, b.rom_n - p, fields, H8_FIELDS), 0);
+        want("forms: decode", h8_decode(b.rom + p, b.rom_n - p, fields, H8_FIELDS, told, 3), 0);
         decode(b.rom + p, b.rom_n - p, &d);
         want("forms: the form", (uint64_t)d.form, (uint64_t)seen);
         want("forms: its fields", (uint64_t)memcmp(d.fields, fields, sizeof fields), 0);
@@ -224,7 +226,7 @@ static void in_pieces(const char *folder, const char *name, uint32_t pc)
     }
 }
 
-/* RANDOM PROGRAMS: instructions one behind the other, jumps mostly short. */
+/* RANDOM PROGRAMS: instructions one behind the other, jumps mostly short; here and there the beginning of a left-out code. */
 static uint32_t program_value(const struct board *b, int form)
 {
     const struct form *f = &forms[form];
@@ -257,16 +259,19 @@ static size_t make_program(uint8_t *rom, const struct board *b)
 {
     size_t at = 0;
     while (at + 8 <= b->rom_n) {
-        uint8_t code[8];
-        int form = some_form();
-        int n = build(form, below(2) ? below(4) : (uint32_t)any(), program_value(b, form), (uint32_t)any(), code);
+        uint8_t code[LEFT_OUT_LENGTH];
+        int form = some_form(), n = 2 * (1 + (int)below(4));
+        if (below(80) == 0)
+            build_left_out((int)below(LEFT_OUT), any(), code);
+        else
+            n = build(form, below(2) ? below(4) : (uint32_t)any(), program_value(b, form), (uint32_t)any(), code);
         memcpy(rom + at, code, (size_t)n);
         at += (size_t)n;
     }
     return at;
 }
 
-static void random_program(uint64_t endings[3], uint64_t *steps)
+static void random_program(uint64_t endings[3], uint64_t *steps, uint64_t *left_out)
 {
     static uint8_t ram[256];
     uint32_t regs[10], rom_n = 16 + 2 * below(120), ram_n = 2 * (16 + below(112));
@@ -283,12 +288,13 @@ static void random_program(uint64_t endings[3], uint64_t *steps)
     regs[H8_CONDITION] = below(256);
     struct ran r = compare_run(&b, regs, below(2) ? 2 * below(rom_n / 2) : 0xFFFFFF, below(400));
     endings[r.ending]++;
+    *left_out += r.number == 15;
     *steps += r.steps;
 }
 
 void test_runs(const char *samples)
 {
-    uint64_t endings[3] = {0}, steps = 0;
+    uint64_t endings[3] = {0}, steps = 0, left_out = 0;
     begin("samples: sheet counter, decimal counter, copy loop, every form once");
     sheet_counter(samples);
     decimal_counter(samples);
@@ -302,11 +308,11 @@ void test_runs(const char *samples)
     end("runs");
     begin("runs of random programs against the model's repeated step");
     for (int k = 0; k < 48000 && !failing(); k++)
-        random_program(endings, &steps);
+        random_program(endings, &steps, &left_out);
     for (int i = 0; i < 3; i++)
         if (endings[i] < 1000 && !failing())
             fail("only %llu runs had ending %d", (ull)endings[i], i);
-    if (steps < 400000 && !failing())
-        fail("only %llu steps", (ull)steps);
+    if ((steps < 400000 || left_out < 1000) && !failing())
+        fail("only %llu steps, and %llu runs refused by 15", (ull)steps, (ull)left_out);
     end("runs");
 }

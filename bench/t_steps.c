@@ -1,10 +1,10 @@
-/* Every form's step against the model: random registers, condition bytes and memories with edges forced in, refusals 1 to 7
-   and 14 with places; all byte operands of the 8-bit operations; and quotients, by multiplication alone. */
+/* Every form's step against the model: random registers, condition bytes and memories with edges forced in, refusals 1 to 7,
+   14 and 15 with places; all byte operands of the 8-bit operations; and quotients, by multiplication alone. */
 #include "bench.h"
 #include <inttypes.h>
 #include <string.h>
 
-enum { NUMBERS = 15 };                      /* refusals 1 to 14, and 0 */
+enum { NUMBERS = 16 };                      /* refusals 1 to 15, and 0 */
 
 static void random_bytes(uint8_t *p, size_t n)
 {
@@ -218,22 +218,45 @@ static void steps_anywhere(uint64_t numbers[NUMBERS])
     end("states");
 }
 
+/* A left-out code, whole or cut by the end of read-only memory, some with a bit turned over. */
+static void steps_left_out(uint64_t numbers[NUMBERS])
+{
+    struct state s;
+    begin("step at left-out codes, whole, cut short and with a bit turned over");
+    for (int k = 0; k < 100000 && !failing(); k++) {
+        uint8_t code[LEFT_OUT_LENGTH];
+        int which = (int)below(LEFT_OUT);
+        uint32_t length = (uint32_t)left_out_length(which);
+        make_state(&s, (int)below(FORMS));
+        build_left_out(which, any(), code);
+        if (k % 4 == 0)
+            code[below(length)] ^= (uint8_t)(1u << below(8));
+        s.regs[H8_PC] = 2 * below(s.rom_n / 2);
+        memcpy(s.rom + s.regs[H8_PC], code, length);
+        if (s.regs[H8_PC] + length <= s.rom_n && k % 2)
+            s.rom_n = s.regs[H8_PC] + 2 * (1 + below(length / 2));
+        numbers[compare_step(&s).number]++;
+    }
+    end("states");
+}
+
 void test_steps(void)
 {
     uint64_t n[NUMBERS] = {0}, all = 0;
     for (int f = 0; f < FORMS; f++)
         steps_of(f, n);
     steps_anywhere(n);
+    steps_left_out(n);
     begin("step of each of the 239 forms against the model, completed and refused");
     for (int i = 0; i < NUMBERS; i++)
         all += n[i];
     for (int i = 0; i < NUMBERS; i++)
-        if ((i <= 7 || i == 14) && n[i] < 1000)
+        if ((i <= 7 || i >= 14) && n[i] < 1000)
             fail("answer %d was met only %llu times", i, (unsigned long long)n[i]);
     count(all);
     end("states");
-    note("completed %" PRIu64 "; refusals 1 to 7 and 14: %" PRIu64 " %" PRIu64 " %" PRIu64 " %" PRIu64 " %" PRIu64 " %" PRIu64 " %" PRIu64
-         " %" PRIu64, n[0], n[1], n[2], n[3], n[4], n[5], n[6], n[7], n[14]);
+    note("completed %" PRIu64 "; refusals 1 to 7, 14 and 15: %" PRIu64 " %" PRIu64 " %" PRIu64 " %" PRIu64 " %" PRIu64 " %" PRIu64 " %" PRIu64
+         " %" PRIu64 " %" PRIu64, n[0], n[1], n[2], n[3], n[4], n[5], n[6], n[7], n[14], n[15]);
 }
 
 /* ALL BYTES. A board of the code and no working memory. */
@@ -352,7 +375,7 @@ struct division {
 static struct division division(int form)
 {
     struct division d = {form, 8 << forms[form].width, forms[form].which == H8_SIGNED, lend(&rom_lender, (size_t)decoder_length(form)),
-                         lend(&ram_lender, 0), lend(&regs_lender, 40), lend(&answer_lender, 12)};
+                         lend(&ram_lender, 0), lend(&regs_lender, 40), lend(&answer_lender, 16)};
     uint8_t code[8];
     memcpy(d.rom, code, (size_t)build(form, d.bits == 8 ? 8 : 0, 0, 1, code));
     return d;
@@ -383,11 +406,11 @@ static int divides(const struct division *d, uint32_t dividend, uint32_t divisor
     regs[1] = above | dividend;
     regs[H8_PC] = 0;
     regs[H8_CONDITION] = condition;
-    uint32_t got = h8_step(8, d->rom, length, d->ram, 0, regs, 10, d->answer, 3);
+    uint32_t got = h8_step(8, d->rom, length, d->ram, 0, regs, 10, d->answer, 4);
     if (!fits(d, x, y))
-        return got == 14 && d->answer[1] == 0 && d->answer[2] == 0 && regs[0] == divisor && regs[1] == (above | dividend)
+        return got == 14 && d->answer[1] == 0 && d->answer[2] == 0 && d->answer[3] == 0 && regs[0] == divisor && regs[1] == (above | dividend)
             && regs[H8_PC] == 0 && regs[H8_CONDITION] == condition;
-    return got == 0 && d->answer[2] == forms[d->form].states && regs[0] == divisor && is_quotient(d, x, y, regs[1] ^ above)
+    return got == 0 && d->answer[3] == forms[d->form].states && regs[0] == divisor && is_quotient(d, x, y, regs[1] ^ above)
         && regs[H8_PC] == length && regs[H8_CONDITION] == ((condition & 0xF3) | negative << 3);
 }
 

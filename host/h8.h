@@ -3,6 +3,11 @@
    Six functions over numbers and lent arrays. An array is lent as a pointer and its length in elements. The library keeps
    nothing between calls, allocates nothing, prints nothing and calls nothing.
 
+   WHAT CHANGED. Refusal 3 was split: 15 is a code of the manual that this set leaves out, and tells its group. So each answer
+   now begins number, place, group. It concerns programs that read answer[2] and beyond: what stood there stands one number
+   later, and an `answer` is lent one number longer. It concerns callers of h8_decode, which now takes an `answer` too, and
+   programs that look for 3. They have to be compiled again with this header.
+
    WHAT THE CALLER OWES, since it can't be checked behind a pointer:
    - a pointer is not null, is aligned for its type and is good for the length given with it: readable, and writable where
      it is not const. With length 0 any pointer that is not null and is aligned will do.
@@ -15,7 +20,7 @@
      No.  when                                                                       place
       1   board wrong; PC odd or at least 2^24; condition number over 255            0
       2   fetch outside read-only memory                                             the address
-      3   unknown code                                                               the address
+      3   unknown: bytes that no code begins and that begin none                     the address
       4   a code cut short by the end of the bytes                                   the address
       5   data read outside both memories                                            the first failing address
       6   data write outside working memory                                          the first failing address
@@ -27,21 +32,26 @@
      12   budget over 1,000,000                                                      0
      13   a lent array is too short                                                  the length it needs
      14   a zero divisor, or a quotient that does not fit                            the instruction
+     15   a code of the manual that this set leaves out, or its beginning            the address
 
-   All but h8_decode also write this number and its place to the first two numbers of the lent array `answer`. All the
-   numbers of an answer that are named here are written at each call, 0 where nothing is said below; numbers past them stay
-   as they were. An `answer` that is too short is looked for before all else: then 13 is returned and nothing is written.
-   A `regs` or a `fields` to be filled that is too short is looked for next. After these two each function's own order follows.
+   Each function also writes this number, its place and its group to the first three numbers of the lent array `answer`. The
+   group is 0 with every number but 15. There it is the group of the code that is left out: 3 MOV with displacement d:24,
+   4 LDC and STC with memory, 5 EEPMOV, 6 TRAPA, RTE and SLEEP, 7 MOVFPE and MOVTPE.
+
+   All the numbers of an answer that are named here are written at each call, 0 where nothing is said below; numbers past
+   them stay as they were. An `answer` that is too short is looked for before all else: then 13 is returned and nothing is
+   written. A `regs` or a `fields` to be filled that is too short is looked for next. After these two each function's own
+   order follows.
 
    On a refusal nothing lent changes but `answer`, with two exceptions: h8_run keeps the steps it completed, and h8_figure
-   fills its table on 2, 3, 4, 9 and 10.
+   fills its table on 2, 3, 4, 9, 10 and 15.
 
    AN EXAMPLE: how many states a routine at 0x100 can take.
 
      uint8_t rom[4096];                          // filled from a file; rom_n bytes of it
-     uint64_t table[4096], answer[3];
-     if (h8_figure(rom, rom_n, 0x100, table, rom_n, answer, 3) == 0)
-         printf("at most %llu states\n", (unsigned long long)answer[2]);
+     uint64_t table[4096], answer[4];
+     if (h8_figure(rom, rom_n, 0x100, table, rom_n, answer, 4) == 0)
+         printf("at most %llu states\n", (unsigned long long)answer[3]);
      else
          printf("refusal %llu at %06llX\n", (unsigned long long)answer[0], (unsigned long long)answer[1]);
  */
@@ -133,39 +143,42 @@ enum h8_target { H8_BY_REG, H8_DIRECT, H8_VECTOR };                      /* @ERn
 #define H8_NONE 16777215u
 
 /* The instruction that `bytes` begin with; what follows it doesn't matter, and `n` may be any length, 0 too.
-   Looks for: 13 (fields_n below 9), 4 (bytes are a proper beginning of a code), 3 (no code begins them and they begin none).
-   0: fields[0..8] hold the instruction. Else nothing is written; the place of 3 and 4 is 0 and that of 13 is 9. */
-uint32_t h8_decode(const uint8_t *bytes, size_t n, uint32_t *fields, size_t fields_n);
+   answer, 3 numbers: [number, place, group].
+   Looks for: 13 (answer_n below 3: nothing written), 13 (fields_n below 9: place 9), 4 (bytes are a proper beginning of a
+   code), 15 (they begin with a code left out or are a beginning of one), 3 (else). The place of 4, 15 and 3 is 0.
+   0: fields[0..8] hold the instruction. Else `fields` are as they were. */
+uint32_t h8_decode(const uint8_t *bytes, size_t n, uint32_t *fields, size_t fields_n, uint32_t *answer, size_t answer_n);
 
 /* The bytes of an instruction. fields[H8_LENGTH] and fields[H8_STATES] are not looked at, but stand there.
-   answer, 3 numbers: [number, place, bytes written].
-   Looks for: 13 (answer_n below 3: nothing written), 11 (fields_n below 9; a kind, choice, register or value out of range, a
+   answer, 4 numbers: [number, place, group, bytes written].
+   Looks for: 13 (answer_n below 4: nothing written), 11 (fields_n below 9; a kind, choice, register or value out of range, a
    number that the kind does not use and that is not 0, or a combination that has no code, as SUB.B #xx:8), 13 (`out`
    shorter than the code: place its length). 0: the first bytes of `out` are the code, and its other bytes stay. */
 uint32_t h8_encode(const uint32_t *fields, size_t fields_n, uint8_t *out, size_t out_n, uint32_t *answer, size_t answer_n);
 
 /* One instruction, at PC.
-   answer, 3 numbers: [number, place, states].
-   Looks for: 13 (answer_n below 3: nothing written), 13 (regs_n below 10: place 10), 1, 2, 4 or 3, 5, 6, 7, 14.
+   answer, 4 numbers: [number, place, group, states].
+   Looks for: 13 (answer_n below 4: nothing written), 13 (regs_n below 10: place 10), 1, 2, 4, 15 or 3, 5, 6, 7, 14.
    0: `regs` and `ram` are as the instruction leaves them, `states` is what it took. Else both are as they were, states 0. */
 uint32_t h8_step(uint32_t base, const uint8_t *rom, size_t rom_n, uint8_t *ram, size_t ram_n,
                  uint32_t *regs, size_t regs_n, uint32_t *answer, size_t answer_n);
 
 /* Steps until PC is `stop`, or `budget` steps are done, or a step is refused. Before each step it looks first for the stop
    address and then for the budget. Any `stop` is allowed; one that PC can't hold is never met.
-   answer, 5 numbers: [number, place, steps done, the sum of their states, ending]; the ending of every refusal is H8_REFUSED.
-   Looks for: 13 (answer_n below 5: nothing written), 13 (regs_n below 10: place 10), 12, 1; in these four cases no step is
+   answer, 6 numbers: [number, place, group, steps done, the sum of their states, ending]; the ending of every refusal is
+   H8_REFUSED.
+   Looks for: 13 (answer_n below 6: nothing written), 13 (regs_n below 10: place 10), 12, 1; in these four cases no step is
    done. Then the refusals of a step. `regs` and `ram` are as the completed steps leave them, whatever the ending. */
 enum h8_ending { H8_STOPPED, H8_SPENT, H8_REFUSED };
 uint32_t h8_run(uint32_t base, const uint8_t *rom, size_t rom_n, uint8_t *ram, size_t ram_n,
                 uint32_t *regs, size_t regs_n, uint32_t stop, uint32_t budget, uint64_t *answer, size_t answer_n);
 
 /* The figure of the routine at `entry`: the largest total of states over all paths from there to an RTS.
-   answer, 3 numbers: [number, place, figure].
-   Looks for: 13 (answer_n below 3: nothing written), 1 (length of `rom` odd or over 524,288), 8, 13 (table_n below rom_n:
+   answer, 4 numbers: [number, place, group, figure].
+   Looks for: 13 (answer_n below 4: nothing written), 1 (length of `rom` odd or over 524,288), 8, 13 (table_n below rom_n:
    place rom_n); in these cases the table stays. Else the table is filled: for each place p, that is, each even address
    below rom_n, table[p] is its figure, 0 if refused, and table[p+1] is the lowest forbidden place that its paths reach,
-   H8_NONE if none. Numbers from table[rom_n] on stay. Then 2, 3, 4, 9 or 10 at the entry's lowest forbidden place, or 0.
+   H8_NONE if none. Numbers from table[rom_n] on stay. Then 2, 3, 4, 9, 10 or 15 at the entry's lowest forbidden place, or 0.
    0: on every board with this `rom`, with any `base` and `ram` and from any registers with PC at `entry`, a run comes to
    the end of its first RTS, or is refused by 5, 6, 7 or 14, within `figure` states and rom_n / 2 steps. */
 uint32_t h8_figure(const uint8_t *rom, size_t rom_n, uint32_t entry, uint64_t *table, size_t table_n,
@@ -175,9 +188,9 @@ uint32_t h8_figure(const uint8_t *rom, size_t rom_n, uint32_t entry, uint64_t *t
    target have the same figure it goes to the next instruction. Followed from an entry until H8_NONE, the states of the
    instructions on the way add up to that entry's figure.
    `table` is one that h8_figure filled for these bytes. (With another table nothing is promised of the answer's numbers.)
-   answer, 3 numbers: [number, place, next place, or H8_NONE if the routine returns here].
-   Looks for: 13 (answer_n below 3: nothing written), 1, 8 (`place` odd or outside), 13 (table_n below rom_n: place rom_n),
-   then what h8_figure answers for this place as its entry: 2, 3, 4, 9 or 10 at its lowest forbidden place. */
+   answer, 4 numbers: [number, place, group, next place, or H8_NONE if the routine returns here].
+   Looks for: 13 (answer_n below 4: nothing written), 1, 8 (`place` odd or outside), 13 (table_n below rom_n: place rom_n),
+   then what h8_figure answers for this place as its entry: 2, 3, 4, 9, 10 or 15 at its lowest forbidden place. */
 uint32_t h8_way(const uint8_t *rom, size_t rom_n, const uint64_t *table, size_t table_n, uint32_t place,
                 uint64_t *answer, size_t answer_n);
 

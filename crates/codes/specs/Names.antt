@@ -44,4 +44,4 @@ pub use Rattle.codes.specs.declared.Decoded.the-variants.{Code, NoCode}
 pub use Rattle.codes.specs.declared.Encoded.{Encoded}
 pub use Rattle.codes.specs.declared.Encoded.the-variants.{Written, NotWritten}
 pub use Rattle.refusal.specs.declared.Refusal.{Refusal}
-pub use Rattle.refusal.specs.declared.Refusal.the-variants.{UnknownCode, CutShort, NotInstruction, LentTooShort}
+pub use Rattle.refusal.specs.declared.Refusal.the-variants.{UnknownCode, CutShort, LeftOut, NotInstruction, LentTooShort}

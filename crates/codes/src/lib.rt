@@ -166,7 +166,7 @@ pub enum Goes {
     Returns,
 }
 
-// What bytes begin with: an instruction and its length, or refusal 3 or 4.
+// What bytes begin with: an instruction and its length, or refusal 3, 4 or 15.
 pub enum Decoded {
     Code(Instruction, usize),
     NoCode(Refusal),

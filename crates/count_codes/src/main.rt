@@ -3,12 +3,12 @@ ghost use Prim.Native.Nat.{_≤_};
 use codes::Decoded;
 use libc::STDOUT_FILENO;
 
-// 0 if a code begins the bytes, else the refusal's number: 4 if they begin a code, 3 if not.
-fn kind(s: &[u8]) -> u32 {
+// Whether the bytes get a refusal of that number and group; with number 0, whether a code begins them.
+fn gets(s: &[u8], number: u32, group: u32) -> bool {
     let d = decoder::decode(s);
     match d {
-        Decoded::Code(_, _) => 0,
-        Decoded::NoCode(f) => f.number(),
+        Decoded::Code(_, _) => number == 0,
+        Decoded::NoCode(f) => (f.number() == number) & (f.group() == group),
     }
 }
 
@@ -19,12 +19,12 @@ fn hit(yes: bool) -> u64
     if yes { 1 } else { 0 }
 }
 
-fn first_words(wanted: u32) -> u64 {
+fn first_words(number: u32, group: u32) -> u64 {
     let mut n: u64 = 0;
     let mut w: u32 = 0;
     while w < 65536 {
         let s = [(w / 256) as u8, (w % 256) as u8];
-        n += hit(kind(&s) == wanted);
+        n += hit(gets(&s, number, group));
         w += 1;
     }
     n
@@ -36,7 +36,7 @@ fn second_words(a: u8, b: u8) -> u64 {
     let mut w: u32 = 0;
     while w < 65536 {
         let s = [a, b, (w / 256) as u8, (w % 256) as u8];
-        n += hit(kind(&s) != 3);
+        n += hit(gets(&s, 0, 0) | gets(&s, 4, 0));
         w += 1;
     }
     n
@@ -55,9 +55,29 @@ fn print_after(text: &[u8], a: u8, b: u8) {
 }
 
 fn main() {
-    print(b"first words that are a whole code: ", first_words(0));
-    print(b"first words that begin a longer code: ", first_words(4));
-    print(b"first words that begin none: ", first_words(3));
+    print(b"first words that are a whole code: ", first_words(0, 0));
+    print(b"first words that begin a longer code: ", first_words(4, 0));
+    print(
+        b"first words of codes left out, group 3: ",
+        first_words(15, 3),
+    );
+    print(
+        b"first words of codes left out, group 4: ",
+        first_words(15, 4),
+    );
+    print(
+        b"first words of codes left out, group 5: ",
+        first_words(15, 5),
+    );
+    print(
+        b"first words of codes left out, group 6: ",
+        first_words(15, 6),
+    );
+    print(
+        b"first words of codes left out, group 7: ",
+        first_words(15, 7),
+    );
+    print(b"first words that begin none: ", first_words(3, 0));
     print_after(b"0100", 0x01, 0x00);
     print_after(b"01C0", 0x01, 0xC0);
     print_after(b"01D0", 0x01, 0xD0);

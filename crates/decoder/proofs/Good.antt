@@ -16,8 +16,8 @@ use Rattle.codes.specs.Code.{_·_, be16, be24, wayDigit, digit013, digit89B, sp
 use Rattle.products.specs.Products.{factorWidth, productWidth}
 use Rattle.codes.specs.Valid.{Digit, HasReg, HasImm, HasSpot, HasPlace, Valid}
 use Rattle.decoder.specs.MirrorDecode.{tailOf, fillOf}
-use Rattle.decoder.specs.MirrorWords.{pick, exactly, below, eZero, held, regReg, longReg, incDecOf, shiftOf, unaryOf, row0, row1, bccDigit, row5, memoryOf, readsOf, writesOf, readsPart, writesPart, row6, firstOp}
-use Rattle.decoder.specs.MirrorWords.{nextOp, row7, planOf, longMemory, longLogic, after00, afterC0, afterD0, afterF0, after01, readsMemory, writesMemory, afterOf}
+use Rattle.decoder.specs.MirrorWords.{pick, exactly, below, isEZero, eZero, held, regReg, longReg, incDecOf, shiftOf, unaryOf, row0, row1, bccDigit, row5, memoryOf, readsOf, writesOf, readsPart, writesPart, row6, firstOp}
+use Rattle.decoder.specs.MirrorWords.{nextOp, row7, planOf, longMemory, longLogic, after00, afterC0, afterD0, afterF0, after01, namedSpot, bitWord, memoryBit, afterOf}
 
 -- ---- a plan is good after the bytes pre and for the word a b: what it makes is an instruction, and its code is those bytes
 
@@ -54,12 +54,19 @@ if≡ P x k {u} {v} f g = go (eqb x k) refl
     go true e = f (eqb-true x k e)
     go false e = g (eqb-false x k e)
 
-pub if< : {A : Type 0} (P : A → Type 0) (x k : ℕ) {u v : A} → (x < k → P u) → (k ≤ x → P v) → P (pick (ltb x k) u v)
+if< : {A : Type 0} (P : A → Type 0) (x k : ℕ) {u v : A} → (x < k → P u) → (k ≤ x → P v) → P (pick (ltb x k) u v)
 if< P x k {u} {v} f g = go (ltb x k) refl
   where
     go : (t : Bool) → ltb x k ≡ t → P (pick t u v)
     go true e = f (ltb-true x k e)
     go false e = g (ltb-false x k e)
+
+pub if-e-zero : (P : Bool → Type 0) (b : ℕ) → (b % 16 ≡ 0 → b / 16 < 8 → P true) → P false → P (isEZero b)
+if-e-zero P b f g = if≡ P (b % 16) 0 (λ z. go (ltb (b / 16) 8) refl z) (λ n. g)
+  where
+    go : (t : Bool) → ltb (b / 16) 8 ≡ t → b % 16 ≡ 0 → P t
+    go true e z = f z (ltb-true (b / 16) 8 e)
+    go false e z = g
 
 two≡ : {a b c d : ℕ} → a ≡ c → b ≡ d → a ∷ b ∷ [] ≡ c ∷ d ∷ []
 two≡ p q = ap₂ (λ x y. x ∷ y ∷ []) p q
@@ -121,6 +128,13 @@ module _ (pre : List ℕ) (c d : ℕ) (hd : d < 256) (spot : Spot) (hs : HasSpot
 module _ (a b : ℕ) (hb : b < 256) where
   short-good : (d : ℕ) (i : Instruction) → (d < 8 → Codes [] a b i []) → Good [] a b (below d 8 (Whole i))
   short-good d i f = if< (Good [] a b) d 8 f (λ h. tt)
+
+  -- e0
+  e-zero-good : (make : ℕ → Instruction) → ((e : ℕ) → e < 8 → Valid (make e)) → ((e : ℕ) → codeOf (make e) ≡ a ∷ e · 0 ∷ [])
+      → Good [] a b (eZero b (Whole (make (b / 16))))
+  e-zero-good make v f =
+      if-e-zero (λ is. Good [] a b (pick is (Whole (make (b / 16))) Nothing)) b
+      (λ z e. (v (b / 16) e, f (b / 16) ∙ two≡ refl (omega arith))) tt
 
   incDecs-good : (way : Way) → wayDigit way · 0xB ≡ a → Good [] a b (incDecOf way b)
   incDecs-good way e =
@@ -212,13 +226,11 @@ module _ (a b : ℕ) (hb : b < 256) where
       if≡ (Good [] a b) (a % 16) 4 (λ h. if≡ (Good [] a b) b 112 (λ k. (tt, two≡ (omega arith) (omega arith))) (λ k. tt)) λ n4.
       if≡ (Good [] a b) (a % 16) 5 (λ h. (hb, two≡ (omega arith) refl)) λ n5.
       if≡ (Good [] a b) (a % 16) 8 (λ h. if≡ (Good [] a b) (bccDigit b) 0 (λ k x y hx hy. (omega arith, four≡ [] (omega arith) (omega arith) (omega arith) (omega arith))) (λ k. tt)) λ n8.
-      if≡ (Good [] a b) (a % 16) 9
-      (λ h. if≡ (Good [] a b) (b % 16) 0 (λ k. short-good (b / 16) (Jmp (ByReg (b / 16))) (λ m. (m, two≡ (omega arith) (omega arith)))) (λ k. tt)) λ n9.
+      if≡ (Good [] a b) (a % 16) 9 (λ h. e-zero-good (λ e. Jmp (ByReg e)) (λ e k. k) (λ e. two≡ (omega arith) refl)) λ n9.
       if≡ (Good [] a b) (a % 16) 10 (λ h x y hx hy. (omega arith, four≡ [] (omega arith) (omega arith) (omega arith) (omega arith))) λ n10.
       if≡ (Good [] a b) (a % 16) 11 (λ h. (hb, two≡ (omega arith) refl)) λ n11.
       if≡ (Good [] a b) (a % 16) 12 (λ h. if≡ (Good [] a b) b 0 (λ k x y hx hy. (omega arith, four≡ [] (omega arith) (omega arith) (omega arith) (omega arith))) (λ k. tt)) λ n12.
-      if≡ (Good [] a b) (a % 16) 13
-      (λ h. if≡ (Good [] a b) (b % 16) 0 (λ k. short-good (b / 16) (Jsr (ByReg (b / 16))) (λ m. (m, two≡ (omega arith) (omega arith)))) (λ k. tt)) λ n13.
+      if≡ (Good [] a b) (a % 16) 13 (λ h. e-zero-good (λ e. Jsr (ByReg e)) (λ e k. k) (λ e. two≡ (omega arith) refl)) λ n13.
       if≡ (Good [] a b) (a % 16) 14 (λ h x y hx hy. (omega arith, four≡ [] (omega arith) (omega arith) (omega arith) (omega arith))) λ n14.
       if≡ (Good [] a b) (a % 16) 15 (λ h. (hb, two≡ (omega arith) refl)) λ n15. tt
 
@@ -434,28 +446,32 @@ module _ (c d : ℕ) (hd : d < 256) where
       if≡ (Good (1 ∷ b ∷ []) c d) b 0xF0 (λ h. subst (λ x. Good (1 ∷ x ∷ []) c d (afterF0 c d)) (sym h) afterF0-good) λ nF0. tt
 
   module _ (a b : ℕ) (hb : b < 256) where
-    zero-good : (p : Plan) → (d % 16 ≡ 0 → Good (a ∷ b ∷ []) c d p) → Good (a ∷ b ∷ []) c d (exactly (d % 16) 0 p)
-    zero-good p f = if≡ (Good (a ∷ b ∷ []) c d) (d % 16) 0 f (λ n. tt)
-
-    e-zero-good : (p : Plan) → (b % 16 ≡ 0 → b / 16 < 8 → Good (a ∷ b ∷ []) c d p) → Good (a ∷ b ∷ []) c d (eZero b p)
-    e-zero-good p f = if≡ (Good (a ∷ b ∷ []) c d) (b % 16) 0 (λ z. if< (Good (a ∷ b ∷ []) c d) (b / 16) 8 (f z) (λ n. tt)) (λ n. tt)
-
+    -- 7C to 7F, and the byte in memory that they name with b
     reads-memory : (spot : Spot) → HasSpot spot → ((byte n : ℕ) → spotCode 0x7C spot byte n ≡ a ∷ b ∷ byte ∷ n · 0 ∷ [])
-        → Good (a ∷ b ∷ []) c d (readsMemory c d spot)
+        → Good (a ∷ b ∷ []) c d (exactly (d % 16) 0 (readsOf c d spot))
     reads-memory spot hs f =
-        zero-good (readsOf c d spot) (λ k. reads-good (a ∷ b ∷ []) c d hd spot hs (λ byte n. f byte n ∙ ap (λ x. a ∷ b ∷ byte ∷ n · x ∷ []) (sym k)))
+        if≡ (Good (a ∷ b ∷ []) c d) (d % 16) 0
+        (λ k. reads-good (a ∷ b ∷ []) c d hd spot hs (λ byte n. f byte n ∙ ap (λ x. a ∷ b ∷ byte ∷ n · x ∷ []) (sym k))) (λ n. tt)
 
     writes-memory : (spot : Spot) → HasSpot spot → ((byte n : ℕ) → spotCode 0x7D spot byte n ≡ a ∷ b ∷ byte ∷ n · 0 ∷ [])
-        → Good (a ∷ b ∷ []) c d (writesMemory c d spot)
+        → Good (a ∷ b ∷ []) c d (exactly (d % 16) 0 (writesOf c d spot))
     writes-memory spot hs f =
-        zero-good (writesOf c d spot) (λ k. writes-good (a ∷ b ∷ []) c d hd spot hs (λ byte n. f byte n ∙ ap (λ x. a ∷ b ∷ byte ∷ n · x ∷ []) (sym k)))
+        if≡ (Good (a ∷ b ∷ []) c d) (d % 16) 0
+        (λ k. writes-good (a ∷ b ∷ []) c d hd spot hs (λ byte n. f byte n ∙ ap (λ x. a ∷ b ∷ byte ∷ n · x ∷ []) (sym k))) (λ n. tt)
+
+    memory-bit-good : Good (a ∷ b ∷ []) c d (memoryBit a b c d)
+    memory-bit-good =
+        if≡ P a 0x7C (λ h. if-e-zero P b (λ z e. behind 0x7C h (reads-memory (AtEr (b / 16)) e (λ byte n. four≡ [] (sym h) (omega arith) refl refl))) tt) λ n7C.
+        if≡ P a 0x7D (λ h. if-e-zero P b (λ z e. behind 0x7D h (writes-memory (AtEr (b / 16)) e (λ byte n. four≡ [] (sym h) (omega arith) refl refl))) tt) λ n7D.
+        if≡ P a 0x7E (λ h. behind 0x7E h (reads-memory (AtAbs b) hb (λ byte n. four≡ [] (sym h) refl refl refl))) λ n7E.
+        if≡ P a 0x7F (λ h. behind 0x7F h (writes-memory (AtAbs b) hb (λ byte n. four≡ [] (sym h) refl refl refl))) λ n7F. tt
+      where
+        P : Bool → Type 0
+        P named = Good (a ∷ b ∷ []) c d (pick named (exactly (d % 16) 0 (bitWord a c d (namedSpot a b))) Nothing)
+
+        behind : (k : ℕ) → a ≡ k → Good (a ∷ b ∷ []) c d (exactly (d % 16) 0 (bitWord k c d (namedSpot k b))) → P true
+        behind k h g = subst (λ x. Good (a ∷ b ∷ []) c d (exactly (d % 16) 0 (bitWord x c d (namedSpot x b)))) (sym h) g
 
     pub after-good : Good (a ∷ b ∷ []) c d (afterOf a b c d)
     after-good =
-        if≡ (Good (a ∷ b ∷ []) c d) a 0x01 (λ h. subst (λ x. Good (x ∷ b ∷ []) c d (after01 b c d)) (sym h) (after01-good b)) λ n01.
-        if≡ (Good (a ∷ b ∷ []) c d) a 0x7C
-        (λ h. e-zero-good (readsMemory c d (AtEr (b / 16))) (λ z e. reads-memory (AtEr (b / 16)) e (λ byte n. four≡ [] (sym h) (omega arith) refl refl))) λ n7C.
-        if≡ (Good (a ∷ b ∷ []) c d) a 0x7D
-        (λ h. e-zero-good (writesMemory c d (AtEr (b / 16))) (λ z e. writes-memory (AtEr (b / 16)) e (λ byte n. four≡ [] (sym h) (omega arith) refl refl))) λ n7D.
-        if≡ (Good (a ∷ b ∷ []) c d) a 0x7E (λ h. reads-memory (AtAbs b) hb (λ byte n. four≡ [] (sym h) refl refl refl)) λ n7E.
-        if≡ (Good (a ∷ b ∷ []) c d) a 0x7F (λ h. writes-memory (AtAbs b) hb (λ byte n. four≡ [] (sym h) refl refl refl)) λ n7F. tt
+        if≡ (Good (a ∷ b ∷ []) c d) a 0x01 (λ h. subst (λ x. Good (x ∷ b ∷ []) c d (after01 b c d)) (sym h) (after01-good b)) λ n01. memory-bit-good

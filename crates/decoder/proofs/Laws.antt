@@ -7,12 +7,14 @@ use mathlib.Core.List.{List, [], _∷_, _++_}
 use native.Mathlib.Omega.{arith}
 use lib.ListN.{length, getD, take, drop, length-append}
 use lib.Seq.{take-at}
-use Rattle.decoder.specs.Names.{Instruction, Decoded, Code, NoCode, Refusal, CutShort, UnknownCode, Plan, Whole, Nothing, Found, Is, Cut, Unlisted, Written}
+use Rattle.decoder.specs.Names.{Instruction, Decoded, Code, NoCode, Refusal, CutShort, Plan, Whole, Nothing, Found, Is, Cut, Unlisted, Written}
 use Rattle.decoder.specs.MirrorWords.{planOf}
 use Rattle.decoder.specs.MirrorDecode.{finishOf, twoWords, foundOf, placedOf, decodeOf}
+use Rattle.left.specs.Left.{groupIn, leftOut}
+use Rattle.left.specs.Unheld.{unheldOf}
 use Rattle.codes.specs.Code.{codeOf, lengthOf}
 use Rattle.codes.specs.Valid.{Valid}
-use Rattle.codes.specs.Exact.{Bytes, Begins, CutOf, Decodes, accepted, cut-short, unknown, Encodes, written}
+use Rattle.codes.specs.Exact.{Bytes, Begins, CutOf, Decodes, accepted, cut-short, unheld, Encodes, written}
 use Rattle.codes.proofs.Laws.{Sized, code-sized}
 use Rattle.decoder.proofs.Complete.{word-only, complete, cut}
 use Rattle.decoder.proofs.Good.{if≡}
@@ -37,11 +39,11 @@ cut-found i v s k = cut i v s (k .0) (k .1) (k .2)
 
 -- ---- exactness
 
-placed-exact : (place : ℕ) (s : List ℕ) (r : Found) → foundOf s ≡ r → Sound s r → Decodes place s (placedOf place r)
+placed-exact : (place : ℕ) (s : List ℕ) (r : Found) → foundOf s ≡ r → Sound s r → Decodes place s (placedOf place s r)
 placed-exact place s (Is i n) e h = accepted (h .0) (h .1) (h .2)
 placed-exact place s Cut e h = cut-short (h .0) (h .1) (h .2)
 placed-exact place s Unlisted e h =
-    unknown (λ i v. (λ b. differ-is (foundOf s) (is-found i v s b) e, λ k. differ-cut (foundOf s) (cut-found i v s k) e))
+    unheld (λ i v. (λ b. differ-is (foundOf s) (is-found i v s b) e, λ k. differ-cut (foundOf s) (cut-found i v s k) e))
 
 -- THE THEOREM: what the decoder computes is what the code list says.
 pub exact : (place : ℕ) (s : List ℕ) → Bytes s → Decodes place s (decodeOf place s)
@@ -65,13 +67,13 @@ decodes-one {s = s} (accepted {i} v e b) (accepted {i = j} w f d) =
     let k : i ≡ j = same-code i j v w s b d in
     ap₂ Code k (e ∙ ap lengthOf k ∙ sym f)
 decodes-one {s = s} (accepted {i} v e b) (cut-short j w k) = absurd (no-cut-code i j v w s b k)
-decodes-one (accepted {i} v e b) (unknown f) = absurd (f i v .0 b)
+decodes-one (accepted {i} v e b) (unheld f) = absurd (f i v .0 b)
 decodes-one {s = s} (cut-short j w k) (accepted {i} v e b) = absurd (no-cut-code i j v w s b k)
 decodes-one (cut-short i v k) (cut-short j w l) = refl
-decodes-one (cut-short i v k) (unknown f) = absurd (f i v .1 k)
-decodes-one (unknown f) (accepted {i} v e b) = absurd (f i v .0 b)
-decodes-one (unknown f) (cut-short i v k) = absurd (f i v .1 k)
-decodes-one (unknown f) (unknown g) = refl
+decodes-one (cut-short i v k) (unheld f) = absurd (f i v .1 k)
+decodes-one (unheld f) (accepted {i} v e b) = absurd (f i v .0 b)
+decodes-one (unheld f) (cut-short i v k) = absurd (f i v .1 k)
+decodes-one (unheld f) (unheld g) = refl
 
 -- ---- what an answer says
 
@@ -96,11 +98,11 @@ accepted-read {s = s} {i} {n} (accepted v e b) =
 pub code-read : (place : ℕ) (s : List ℕ) (i : Instruction) (n : ℕ) → Bytes s → decodeOf place s ≡ Code i n → Read s i n
 code-read place s i n h e = accepted-read (subst (λ r. Decodes place s r) e (exact place s h))
 
--- a refusal is 4 or 3, with the place
-pub refused-at : (place : ℕ) (s : List ℕ) (f : Refusal) → decodeOf place s ≡ NoCode f → (f ≡ CutShort place) ⊎ (f ≡ UnknownCode place)
+-- a refusal is 4, or 15 or 3, with the place
+pub refused-at : (place : ℕ) (s : List ℕ) (f : Refusal) → decodeOf place s ≡ NoCode f → (f ≡ CutShort place) ⊎ (f ≡ unheldOf place (groupIn leftOut s))
 refused-at place s f e = go (foundOf s) e
   where
-    go : (r : Found) → placedOf place r ≡ NoCode f → (f ≡ CutShort place) ⊎ (f ≡ UnknownCode place)
+    go : (r : Found) → placedOf place s r ≡ NoCode f → (f ≡ CutShort place) ⊎ (f ≡ unheldOf place (groupIn leftOut s))
     go (Is i n) e = absurd (let z : _≡_ {A = ℕ} 0 1 = cc in omega arith)
     go Cut e = inl (cc)
     go Unlisted e = inr (cc)
@@ -134,7 +136,7 @@ whole-word (a ∷ b ∷ t) i h e = word-only a b t (planned-one a b e) ∙ ap (�
 
 -- decoding a code gives its instruction and its length, whatever follows
 pub decode-code : (place : ℕ) (i : Instruction) → Valid i → (rest : List ℕ) → decodeOf place (codeOf i ++ rest) ≡ Code i (lengthOf i)
-decode-code place i v rest = ap (placedOf place) (complete i v rest)
+decode-code place i v rest = ap (placedOf place (codeOf i ++ rest)) (complete i v rest)
 
 -- so decoding what was encoded gives it back
 pub decode-encoded : (place : ℕ) {i : Instruction} {old new : List ℕ} {n : ℕ} → Encodes i old new (Written n) → decodeOf place new ≡ Code i n

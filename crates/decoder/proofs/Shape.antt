@@ -14,13 +14,13 @@ use Rattle.decoder.specs.Names.{Take, Btst, Bor, Bior, Bxor, Bixor, Band
 use Rattle.decoder.specs.Names.{Andc, Ldc, Dir, Load, Store, Place, At, Step, Disp, Abs8, Abs16, Abs24, Reach, Near, Far, Target, ByReg, Direct}
 use Rattle.decoder.specs.Names.{Vector, Instruction, Nop, Stc, LdcReg, Ccr, Alu, IncDec, AddsSubs, Decimal, Shift, Unary, Multiply, Divide, Move, Bcc, Jmp, Bsr}
 use Rattle.decoder.specs.Names.{Jsr, Rts, Rest, Imm16, Imm32, Disp16, Aa16, Aa24, Bcc16, Bsr16, Jmp24, Jsr24, Plan, Whole, Lacks, Nothing, Mode}
-use Rattle.decoder.specs.Names.{Plain, Stepping, Displaced, Absolute, Bits16, Bits24, Bits32, Cut}
+use Rattle.decoder.specs.Names.{Plain, Stepping, Displaced, Absolute, Bits16, Bits24, Bits32, Cut, Unlisted}
 use Rattle.codes.specs.Code.{codeOf, _·_, dirDigit, digit013, digit89B, spotCode, be16, be24, be32}
 use Rattle.codes.specs.Valid.{Valid, Digit, HasSpot}
 use Rattle.products.specs.Products.{productWidth}
 use Rattle.decoder.specs.MirrorWords.{pick, exactly, below, held, regReg, multiplied, divided, longReg, incDecs, shifts, shiftOf, unaries, bccDigit, moveOf, memoryOf, nextOp, plans, planOf}
-use Rattle.decoder.specs.MirrorWords.{longMemory, longLogic, eZero, takeEither, giveNumbered, giveByPart, readsOf, writesOf, afterOf}
-use Rattle.decoder.specs.MirrorDecode.{tailOf, fillOf, begunOf, twoWords, startsOf, prefixEr, prefixOf}
+use Rattle.decoder.specs.MirrorWords.{longMemory, longLogic, isEZero, eZero, takeEither, giveNumbered, giveByPart, readsOf, writesOf, afterOf}
+use Rattle.decoder.specs.MirrorDecode.{tailOf, fillOf, begunOf, twoWords, startsOf, prefixOf}
 
 -- ---- digits and tests
 
@@ -33,6 +33,13 @@ short {d = d} h = rw (lt-ltb d 8 h)
 -- a test that holds
 taken : {x k : ℕ} {p : Plan} → x ≡ k → exactly x k p ≡ p
 taken {x} {k} e = rw (eq-eqb x k e)
+
+-- e0
+at-e-zero : (f : ℕ → Plan) (e : ℕ) → e < 8 → eZero (e · 0) (f ((e · 0) / 16)) ≡ f e
+at-e-zero f e h = digits (λ x y. pick (pick (eqb y 0) (ltb x 8) false) (f x) Nothing) e (omega arith) ∙ short h
+
+cut-e-zero : (e : ℕ) → e < 8 → pick (isEZero (e · 0)) Cut Unlisted ≡ Cut
+cut-e-zero e h = digits (λ x y. pick (pick (eqb y 0) (ltb x 8) false) Cut Unlisted) e (omega arith) ∙ rw (lt-ltb e 8 h)
 
 -- ---- what a plan makes of the bytes that follow
 
@@ -302,16 +309,9 @@ divide-shape Signed Sixteen s d v = long refl refl refl (all (at-product (Divide
 
 -- ---- the bit instructions
 
--- e0
-at-e-zero : (f : ℕ → Plan) (e : ℕ) → e < 8 → eZero (e · 0) (f ((e · 0) / 16)) ≡ f e
-at-e-zero f e h = digits (λ x y. pick (eqb y 0) (below x 8 (f x)) Nothing) e (omega arith) ∙ short h
-
-cut-e-zero : (e : ℕ) → e < 8 → prefixEr (e · 0) ≡ Cut
-cut-e-zero e h = rw (eq-eqb ((e · 0) % 16) 0 (omega arith), lt-ltb (e · 0) 128 (omega arith))
-
 -- What `plan` makes of a word is an instruction with its bit in a byte register, at @ER behind `lead`, or at aa:8 behind `lead + 2`.
 module _ (lead : ℕ) (plan : ℕ → ℕ → Spot → Plan) (er : twoWords lead ≡ true) (abs : twoWords (lead + 2) ≡ true)
-    (cut-er : (b : ℕ) → prefixOf lead b ≡ prefixEr b) (cut-abs : (b : ℕ) → prefixOf (lead + 2) b ≡ Cut)
+    (cut-er : (b : ℕ) → prefixOf lead b ≡ pick (isEZero b) Cut Unlisted) (cut-abs : (b : ℕ) → prefixOf (lead + 2) b ≡ Cut)
     (after-er : (b c d : ℕ) → afterOf lead b c d ≡ eZero b (exactly (d % 16) 0 (plan c d (AtEr (b / 16)))))
     (after-abs : (b c d : ℕ) → afterOf (lead + 2) b c d ≡ exactly (d % 16) 0 (plan c d (AtAbs b))) where
   bit-shape : (byte digit : ℕ) (make : Spot → Instruction) → twoWords byte ≡ false → startsOf byte ≡ Cut
@@ -464,12 +464,12 @@ bcc-shape c (Far d) v =
     (two (Bcc16 c) (taken {x = bccDigit (c · 0)} {k = 0} (omega arith) ∙ ap (λ x. Lacks (Bcc16 x)) (digits-div c (omega arith))) refl (ap (λ x. Bcc c (Far x)) (low16 d (v .1))))
 
 jmp-shape : (t : Target) → Valid (Jmp t) → Shape (Jmp t) (codeOf (Jmp t))
-jmp-shape (ByReg e) v = one refl refl (digits (λ x y. pick (eqb y 0) (below x 8 (Whole (Jmp (ByReg x)))) Nothing) e (omega arith) ∙ short v)
+jmp-shape (ByReg e) v = one refl refl (at-e-zero (λ x. Whole (Jmp (ByReg x))) e v)
 jmp-shape (Direct a) v = plain {b = a / 65536} refl refl (two (Jmp24 (a / 65536)) refl refl (ap (λ x. Jmp (Direct x)) (apart24 a v)))
 jmp-shape (Vector a) v = one refl refl refl
 
 jsr-shape : (t : Target) → Valid (Jsr t) → Shape (Jsr t) (codeOf (Jsr t))
-jsr-shape (ByReg e) v = one refl refl (digits (λ x y. pick (eqb y 0) (below x 8 (Whole (Jsr (ByReg x)))) Nothing) e (omega arith) ∙ short v)
+jsr-shape (ByReg e) v = one refl refl (at-e-zero (λ x. Whole (Jsr (ByReg x))) e v)
 jsr-shape (Direct a) v = plain {b = a / 65536} refl refl (two (Jsr24 (a / 65536)) refl refl (ap (λ x. Jsr (Direct x)) (apart24 a v)))
 jsr-shape (Vector a) v = one refl refl refl
 

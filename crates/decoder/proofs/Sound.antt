@@ -1,5 +1,5 @@
 -- What the decoder finds stands in the code list: an instruction whose code begins the bytes, or one of whose code they are a proper beginning.
-use Prim.Native.Nat.{ℕ, _+_, _*_, _/_, _%_, _<_}
+use Prim.Native.Nat.{ℕ, _+_, _*_, _/_, _<_}
 use mathlib.Core.Path.{_≡_, refl, sym, ap, _∙_, subst}
 use mathlib.Core.Logic.{_⊎_, inl, inr}
 use mathlib.Core.Bool.{Bool, true, false}
@@ -10,13 +10,13 @@ use lib.ListN.{length, length-append}
 use borrow.Author.Tests.{eqb-true, eqb-false}
 use Rattle.decoder.specs.Names.{Long, Or, Reg, Eight, Signed, Btst, Bset, Numbered, AtEr, AtAbs, Load, At, Instruction, Nop, Alu, Multiply, Divide, Takes, Gives, Move, Rts, Rest, Plan, Whole, Lacks, Nothing, Tail, Bits16}
 use Rattle.decoder.specs.Names.{Bits24, Bits32, Found, Is, Cut, Unlisted}
-use Rattle.codes.specs.Code.{_·_, codeOf}
+use Rattle.codes.specs.Code.{codeOf}
 use Rattle.codes.specs.Valid.{Valid}
 use Rattle.codes.specs.Exact.{Bytes, Begins, CutOf}
-use Rattle.decoder.specs.MirrorDecode.{tailOf, fillOf, with16, with32, with24, byTail, finishOf, begunOf, twoWords, startsOf, prefix01, prefixEr, prefixOf, prefixedOf, foundOf}
+use Rattle.decoder.specs.MirrorDecode.{tailOf, fillOf, with16, with32, with24, byTail, finishOf, begunOf, twoWords, startsOf, prefix01, prefixOf, prefixedOf, foundOf}
 use Rattle.decoder.specs.MirrorWords.{pick, planOf, afterOf}
 use Rattle.decoder.proofs.Complete.{word-first, word-second, sixteen, thirty-two, zero-first, not-zero-first}
-use Rattle.decoder.proofs.Good.{Codes, Good2, Good3, Good4, GoodTail, Good, if≡, if<, four≡, plan-good, after-good}
+use Rattle.decoder.proofs.Good.{Codes, Good2, Good3, Good4, GoodTail, Good, if≡, if-e-zero, four≡, plan-good, after-good}
 
 -- what an answer says of the bytes, but for `Unlisted`
 abbrev pub Sound : List ℕ → Found → Type 0
@@ -138,25 +138,16 @@ prefix01-sound b =
     if≡ (Sound (1 ∷ b ∷ [])) b 0xD0 (λ k. word-of 1 b (Divide Signed Eight 0 0) 0x51 (omega arith, omega arith) (four≡ [] refl (sym k) refl refl)) λ nD0.
     if≡ (Sound (1 ∷ b ∷ [])) b 0xF0 (λ k. word-of 1 b (Alu Or Long (Reg 0) 0) 0x64 (omega arith) (four≡ [] refl (sym k) refl refl)) λ nF0. tt
 
--- e0
-er-sound : (a b : ℕ) (make : ℕ → Instruction) (c : ℕ) → ((e : ℕ) → e < 8 → Valid (make e)) → ((e : ℕ) → codeOf (make e) ≡ a ∷ e · 0 ∷ c ∷ 0 ∷ [])
-    → Sound (a ∷ b ∷ []) (prefixEr b)
-er-sound a b make c v f =
-    if≡ (Sound (a ∷ b ∷ [])) (b % 16) 0
-    (λ z. if< (Sound (a ∷ b ∷ [])) b 128
-    (λ l. word-of a b (make (b / 16)) c (v (b / 16) (omega arith)) (f (b / 16) ∙ four≡ [] refl (omega arith) refl refl))
-    (λ l. tt))
-    (λ z. tt)
-
 prefix-sound : (a b : ℕ) → b < 256 → Sound (a ∷ b ∷ []) (prefixOf a b)
 prefix-sound a b hb =
     if≡ (Sound (a ∷ b ∷ [])) a 0x01 (λ k. subst (λ x. Sound (x ∷ b ∷ []) (prefix01 b)) (sym k) (prefix01-sound b)) λ n01.
-    if≡ (Sound (a ∷ b ∷ [])) a 0x7C
-    (λ k. er-sound a b (λ e. Takes Btst (Numbered 0) (AtEr e)) 0x73 (λ e l. (omega arith, l)) (λ e. four≡ [] (sym k) refl refl refl)) λ n7C.
-    if≡ (Sound (a ∷ b ∷ [])) a 0x7D
-    (λ k. er-sound a b (λ e. Gives Bset (Numbered 0) (AtEr e)) 0x70 (λ e l. (omega arith, l)) (λ e. four≡ [] (sym k) refl refl refl)) λ n7D.
-    if≡ (Sound (a ∷ b ∷ [])) a 0x7E (λ k. word-of a b (Takes Btst (Numbered 0) (AtAbs b)) 0x73 (omega arith, hb) (four≡ [] (sym k) refl refl refl)) λ n7E.
-    if≡ (Sound (a ∷ b ∷ [])) a 0x7F (λ k. word-of a b (Gives Bset (Numbered 0) (AtAbs b)) 0x70 (omega arith, hb) (four≡ [] (sym k) refl refl refl)) λ n7F. tt
+    if≡ P a 0x7C (λ k. if-e-zero P b (λ z e. word-of a b (Takes Btst (Numbered 0) (AtEr (b / 16))) 0x73 (omega arith, e) (four≡ [] (sym k) (omega arith) refl refl)) tt) λ n7C.
+    if≡ P a 0x7D (λ k. if-e-zero P b (λ z e. word-of a b (Gives Bset (Numbered 0) (AtEr (b / 16))) 0x70 (omega arith, e) (four≡ [] (sym k) (omega arith) refl refl)) tt) λ n7D.
+    if≡ P a 0x7E (λ k. word-of a b (Takes Btst (Numbered 0) (AtAbs b)) 0x73 (omega arith, hb) (four≡ [] (sym k) refl refl refl)) λ n7E.
+    if≡ P a 0x7F (λ k. word-of a b (Gives Bset (Numbered 0) (AtAbs b)) 0x70 (omega arith, hb) (four≡ [] (sym k) refl refl refl)) λ n7F. tt
+  where
+    P : Bool → Type 0
+    P named = Sound (a ∷ b ∷ []) (pick named Cut Unlisted)
 
 prefixed-sound : (a b : ℕ) → b < 256 → (t : List ℕ) → Bytes t → Sound (a ∷ b ∷ t) (prefixedOf a b t)
 prefixed-sound a b hb [] h = prefix-sound a b hb

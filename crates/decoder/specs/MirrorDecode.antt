@@ -5,9 +5,11 @@ use mathlib.Core.Bool.{Bool, true, false}
 use mathlib.Core.List.{List}
 use lib.Dec.{ltb, eqb}
 use lib.ListN.{length, getD, drop}
-use Rattle.decoder.specs.Names.{Word, Long, Imm, Disp, Abs16, Abs24, Far, Direct, Instruction, Alu, Move, Bcc, Jmp, Bsr, Jsr, Decoded, Code, NoCode, UnknownCode, CutShort}
+use Rattle.left.specs.Left.{groupIn, leftOut}
+use Rattle.left.specs.Unheld.{unheldOf}
+use Rattle.decoder.specs.Names.{Word, Long, Imm, Disp, Abs16, Abs24, Far, Direct, Instruction, Alu, Move, Bcc, Jmp, Bsr, Jsr, Decoded, Code, NoCode, CutShort}
 use Rattle.decoder.specs.Names.{Rest, Imm16, Imm32, Disp16, Aa16, Aa24, Bcc16, Bsr16, Jmp24, Jsr24, Plan, Whole, Lacks, Nothing, Tail, Bits16, Bits24, Bits32, Found, Is, Cut, Unlisted}
-use Rattle.decoder.specs.MirrorWords.{pick, planOf, afterOf}
+use Rattle.decoder.specs.MirrorWords.{pick, planOf, namesByte, afterOf}
 
 abbrev pub tailOf : Rest → Tail
 tailOf (Imm16 op r) = Bits16
@@ -82,16 +84,8 @@ prefix01 b =
     (pick (eqb b 0xD0) Cut
     (pick (eqb b 0xF0) Cut Unlisted)))
 
-abbrev pub prefixEr : ℕ → Found
-prefixEr b = pick (eqb (b % 16) 0) (pick (ltb b 128) Cut Unlisted) Unlisted
-
 abbrev pub prefixOf : ℕ → ℕ → Found
-prefixOf a b =
-    pick (eqb a 0x01) (prefix01 b)
-    (pick (eqb a 0x7C) (prefixEr b)
-    (pick (eqb a 0x7D) (prefixEr b)
-    (pick (eqb a 0x7E) Cut
-    (pick (eqb a 0x7F) Cut Unlisted))))
+prefixOf a b = pick (eqb a 0x01) (prefix01 b) (pick (namesByte a b) Cut Unlisted)
 
 abbrev pub prefixedOf : ℕ → ℕ → List ℕ → Found
 prefixedOf a b rest =
@@ -122,10 +116,10 @@ plannedOf s =
     pick (twoWords (getD s 0 0)) (afterOf (getD s 0 0) (getD s 1 0) (getD s 2 0) (getD s 3 0))
     (planOf (getD s 0 0) (getD s 1 0))
 
-abbrev pub placedOf : ℕ → Found → Decoded
-placedOf place (Is i n) = Code i n
-placedOf place Cut = NoCode (CutShort place)
-placedOf place Unlisted = NoCode (UnknownCode place)
+abbrev pub placedOf : ℕ → List ℕ → Found → Decoded
+placedOf place s (Is i n) = Code i n
+placedOf place s Cut = NoCode (CutShort place)
+placedOf place s Unlisted = NoCode (unheldOf place (groupIn leftOut s))
 
 abbrev pub decodeOf : ℕ → List ℕ → Decoded
-decodeOf place s = placedOf place (foundOf s)
+decodeOf place s = placedOf place s (foundOf s)

@@ -21,8 +21,11 @@ exactly x k p = pick (eqb x k) p Nothing
 abbrev pub below : ℕ → ℕ → Plan → Plan
 below x k p = pick (ltb x k) p Nothing
 
+abbrev pub isEZero : ℕ → Bool
+isEZero b = pick (eqb (b % 16) 0) (ltb (b / 16) 8) false
+
 abbrev pub eZero : ℕ → Plan → Plan
-eZero b p = exactly (b % 16) 0 (below (b / 16) 8 p)
+eZero b p = pick (isEZero b) p Nothing
 
 abbrev pub held : Width → ℕ → Plan → Plan
 held Byte d p = p
@@ -349,16 +352,21 @@ after01 b c d =
     (pick (eqb b 0xD0) (afterD0 c d)
     (pick (eqb b 0xF0) (afterF0 c d) Nothing)))
 
-abbrev pub readsMemory : ℕ → ℕ → Spot → Plan
-readsMemory c d spot = exactly (d % 16) 0 (readsOf c d spot)
+abbrev pub namesByte : ℕ → ℕ → Bool
+namesByte a b =
+    pick (eqb a 0x7C) (isEZero b)
+    (pick (eqb a 0x7D) (isEZero b)
+    (pick (eqb a 0x7E) true
+    (pick (eqb a 0x7F) true false)))
 
-abbrev pub writesMemory : ℕ → ℕ → Spot → Plan
-writesMemory c d spot = exactly (d % 16) 0 (writesOf c d spot)
+abbrev pub namedSpot : ℕ → ℕ → Spot
+namedSpot a b = pick (ltb a 0x7E) (AtEr (b / 16)) (AtAbs b)
+
+abbrev pub bitWord : ℕ → ℕ → ℕ → Spot → Plan
+bitWord a c d spot = pick (eqb (a % 2) 0) (readsOf c d spot) (writesOf c d spot)
+
+abbrev pub memoryBit : ℕ → ℕ → ℕ → ℕ → Plan
+memoryBit a b c d = pick (namesByte a b) (exactly (d % 16) 0 (bitWord a c d (namedSpot a b))) Nothing
 
 abbrev pub afterOf : ℕ → ℕ → ℕ → ℕ → Plan
-afterOf a b c d =
-    pick (eqb a 0x01) (after01 b c d)
-    (pick (eqb a 0x7C) (eZero b (readsMemory c d (AtEr (b / 16))))
-    (pick (eqb a 0x7D) (eZero b (writesMemory c d (AtEr (b / 16))))
-    (pick (eqb a 0x7E) (readsMemory c d (AtAbs b))
-    (pick (eqb a 0x7F) (writesMemory c d (AtAbs b)) Nothing))))
+afterOf a b c d = pick (eqb a 0x01) (after01 b c d) (memoryBit a b c d)

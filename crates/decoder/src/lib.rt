@@ -10,13 +10,13 @@ mod plan;
 pub mod whole;
 mod words;
 
-fn placed(found: Found, place: u32) -> Decoded
-    ensures { λ r. ⌜ r ≡ placedOf place found ⌝ }
+fn placed(found: Found, bytes: &[u8], place: u32) -> Decoded
+    ensures { λ r. ⌜ r ≡ placedOf place (now (bytes .entry)) found ⌝ }
 {
     match found {
         Found::Is(i, n) => Decoded::Code(i, n),
         Found::Cut => Decoded::NoCode(Refusal::CutShort(place)),
-        Found::Unlisted => Decoded::NoCode(Refusal::UnknownCode(place)),
+        Found::Unlisted => Decoded::NoCode(left::unheld(bytes, place)),
     }
 }
 
@@ -25,7 +25,7 @@ pub fn decode_at(bytes: &[u8], place: u32) -> Decoded
     ensures exact { λ r. ⌜ Decodes place (now (bytes .entry)) r ⌝ }
     ensures mirror { λ r. ⌜ r ≡ decodeOf place (now (bytes .entry)) ⌝ }
 {
-    placed(whole::begins(bytes), place)
+    placed(whole::begins(bytes), bytes, place)
 }
 
 pub fn decode(bytes: &[u8]) -> Decoded

@@ -1,6 +1,6 @@
 // The forms that a word of a code can have: a whole instruction, one that lacks its last bytes, or nothing.
 ghost use mathlib.Core.Path.{_≡_};
-ghost use Rattle.decoder.specs.MirrorWords.{exactly, below, held, nopOf, stcOf, ldcOf, ccrOf, counted, stepped, turned, singleOf, rtsOf, bcc16, bsr16, jmpReg, jsrReg, imm16, imm32, regReg, multiplied, divided, longReg, incOrLong, decimalOrLong, absoluteOf, moveOf, memoryOf, firstOp, nextOp, longMemory, longLogic, eZero, takeByPart, takeNumbered, takeEither, giveByPart, giveNumbered, giveEither};
+ghost use Rattle.decoder.specs.MirrorWords.{exactly, below, held, nopOf, stcOf, ldcOf, ccrOf, counted, stepped, turned, singleOf, rtsOf, bcc16, bsr16, jmpReg, jsrReg, imm16, imm32, regReg, multiplied, divided, longReg, incOrLong, decimalOrLong, absoluteOf, moveOf, memoryOf, firstOp, nextOp, longMemory, longLogic, isEZero, eZero, takeByPart, takeNumbered, takeEither, giveByPart, giveNumbered, giveEither};
 use arith::Width;
 use codes::By;
 use codes::Change;
@@ -62,11 +62,17 @@ pub fn below(x: u8, k: u8, p: Plan) -> Plan
     if x < k { p } else { Plan::Nothing }
 }
 
+pub fn is_e_zero(b: u8) -> bool
+    ensures { λ r. ⌜ r ≡ isEZero b ⌝ }
+{
+    if b % 16 == 0 { b / 16 < 8 } else { false }
+}
+
 // Only where the byte is e0.
 pub fn e_zero(b: u8, p: Plan) -> Plan
     ensures { λ r. ⌜ r ≡ eZero b p ⌝ }
 {
-    exactly(b % 16, 0, below(b / 16, 8, p))
+    if is_e_zero(b) { p } else { Plan::Nothing }
 }
 
 // A register digit: r of a byte or a word, e of a long.

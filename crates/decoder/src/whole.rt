@@ -2,7 +2,7 @@
 ghost use mathlib.Core.Path.{_≡_};
 ghost use Prim.Native.Nat.{_<_};
 ghost use lib.ListN.{getD};
-ghost use Rattle.decoder.specs.MirrorDecode.{tailOf, fillOf, with16, with24, with32, byTail, finishOf, begunOf, twoWords, aloneOf, prefix01, prefixEr, prefixOf, shortOf, leadOf, plannedOf, foundOf};
+ghost use Rattle.decoder.specs.MirrorDecode.{tailOf, fillOf, with16, with24, with32, byTail, finishOf, begunOf, twoWords, aloneOf, prefix01, prefixOf, shortOf, leadOf, plannedOf, foundOf};
 use crate::plan::Plan;
 use crate::plan::Rest;
 use arith::Width;
@@ -174,28 +174,17 @@ fn prefix_01(b: u8) -> Found
     }
 }
 
-// 7C or 7D and a byte, which is e0.
-fn prefix_er(b: u8) -> Found
-    ensures { λ r. ⌜ r ≡ prefixEr b ⌝ }
-{
-    if b % 16 == 0 {
-        if b < 128 { Found::Cut } else { Found::Unlisted }
-    } else {
-        Found::Unlisted
-    }
-}
-
 // A code of two words, of which there is the first.
 fn prefix(a: u8, b: u8) -> Found
     ensures { λ r. ⌜ r ≡ prefixOf a b ⌝ }
 {
-    match a {
-        0x01 => prefix_01(b),
-        0x7C => prefix_er(b),
-        0x7D => prefix_er(b),
-        0x7E => Found::Cut,
-        0x7F => Found::Cut,
-        _ => Found::Unlisted,
+    if a == 0x01 {
+        return prefix_01(b);
+    }
+    if crate::words::names_byte(a, b) {
+        Found::Cut
+    } else {
+        Found::Unlisted
     }
 }
 

@@ -1,6 +1,6 @@
 // What a word of a code says. The tables are document 01's, by digits.
 ghost use mathlib.Core.Path.{_≡_};
-ghost use Rattle.decoder.specs.MirrorWords.{incDecOf, shiftOf, unaryOf, row0, row1, row5, readsOf, writesOf, readsPart, writesPart, row6, row7, planOf, after00, afterC0, afterD0, afterF0, after01, readsMemory, writesMemory, afterOf};
+ghost use Rattle.decoder.specs.MirrorWords.{incDecOf, shiftOf, unaryOf, row0, row1, row5, readsOf, writesOf, readsPart, writesPart, row6, row7, planOf, after00, afterC0, afterD0, afterF0, after01, namesByte, namedSpot, bitWord, memoryBit, afterOf};
 use crate::plan;
 use crate::plan::Mode;
 use crate::plan::Plan;
@@ -320,17 +320,54 @@ fn after_01(b: u8, c: u8, d: u8) -> Plan
     }
 }
 
-// The second word of a bit instruction in memory: its last digit is 0
-fn reads_memory(c: u8, d: u8, spot: Spot) -> Plan
-    ensures { λ r. ⌜ r ≡ readsMemory c d spot ⌝ }
+// Whether a and b name a byte in memory: e0 behind 7C and 7D, aa:8 behind 7E and 7F
+pub fn names_byte(a: u8, b: u8) -> bool
+    ensures { λ r. ⌜ r ≡ namesByte a b ⌝ }
 {
-    plan::exactly(d % 16, 0, reads(c, d, spot))
+    match a {
+        0x7C => plan::is_e_zero(b),
+        0x7D => plan::is_e_zero(b),
+        0x7E => true,
+        0x7F => true,
+        _ => false,
+    }
 }
 
-fn writes_memory(c: u8, d: u8, spot: Spot) -> Plan
-    ensures { λ r. ⌜ r ≡ writesMemory c d spot ⌝ }
+fn named_spot(a: u8, b: u8) -> Spot
+    ensures { λ r. ⌜ r ≡ namedSpot a b ⌝ }
 {
-    plan::exactly(d % 16, 0, writes(c, d, spot))
+    if a < 0x7E {
+        Spot::AtEr(b / 16)
+    } else {
+        Spot::AtAbs(b)
+    }
+}
+
+// Behind 7C and 7E a bit is read, behind 7D and 7F it is written. The two tables are asked in one place for all four, where the
+// compiler puts them in, and no plan goes through memory.
+fn bit_word(a: u8, c: u8, d: u8, spot: Spot) -> Plan
+    ensures { λ r. ⌜ r ≡ bitWord a c d spot ⌝ }
+{
+    if a % 2 == 0 {
+        reads(c, d, spot)
+    } else {
+        writes(c, d, spot)
+    }
+}
+
+// The word after a and b of 7C to 7F: its last digit is 0
+fn memory_bit(a: u8, b: u8, c: u8, d: u8) -> Plan
+    ensures { λ r. ⌜ r ≡ memoryBit a b c d ⌝ }
+{
+    if names_byte(a, b) {
+        if d % 16 == 0 {
+            bit_word(a, c, d, named_spot(a, b))
+        } else {
+            Plan::Nothing
+        }
+    } else {
+        Plan::Nothing
+    }
 }
 
 // The second word of a code that begins with a and b
@@ -339,10 +376,6 @@ pub fn second_word(a: u8, b: u8, c: u8, d: u8) -> Plan
 {
     match a {
         0x01 => after_01(b, c, d),
-        0x7C => plan::e_zero(b, reads_memory(c, d, Spot::AtEr(b / 16))),
-        0x7D => plan::e_zero(b, writes_memory(c, d, Spot::AtEr(b / 16))),
-        0x7E => reads_memory(c, d, Spot::AtAbs(b)),
-        0x7F => writes_memory(c, d, Spot::AtAbs(b)),
-        _ => Plan::Nothing,
+        _ => memory_bit(a, b, c, d),
     }
 }

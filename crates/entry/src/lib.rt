@@ -1,15 +1,20 @@
 // An instruction as one number: kind * 16 + variant + 512 * operands. What the number means is in specs/Entry.
 use codes::Instruction;
 ghost use mathlib.Core.Path.{_≡_};
-ghost use Rattle.entry.specs.Entry.{packOf};
+ghost use Rattle.entry.specs.Entry.{packOf, unheldEntry};
 
 mod forms;
 mod numbers;
 
-// No code at a place: refusals 3 and 4.
-pub const UNKNOWN: u64 = 158;
-
+// No code at a place: refusal 4.
 pub const CUT: u64 = 159;
+
+// Refusal 15 with its group, or 3 where that is 0.
+pub fn unheld(group: u8) -> u64
+    ensures { λ e. ⌜ e ≡ unheldEntry group ⌝ }
+{
+    forms::build(9, 14, group as u64)
+}
 
 // The entry of an instruction. One that is not valid has an entry too, of no meaning.
 pub fn pack(i: Instruction) -> u64

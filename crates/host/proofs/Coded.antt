@@ -1,7 +1,7 @@
 -- What the code finds is what `Codes` says.
 use mathlib.Core.Path.{_≡_, refl, sym, ap, _∙_, subst}
 use mathlib.Core.Bool.{Bool, true, false, cond}
-use mathlib.Core.List.{List}
+use mathlib.Core.List.{List, []}
 use Prim.Native.Nat.{ℕ, _%_, _≤_, _<_}
 use native.Mathlib.Omega.{arith}
 use borrow.Author.Tests.{le-ltb, ltb-false}
@@ -9,7 +9,7 @@ use lib.Dec.{ltb}
 use lib.ListN.{length, take}
 use Rattle.codes.specs.Code.{lengthOf}
 use Rattle.codes.specs.Valid.{Valid}
-use Rattle.codes.specs.Exact.{Decodes, accepted, cut-short, unknown, Encodes, written, not-instruction, too-short}
+use Rattle.codes.specs.Exact.{Decodes, accepted, cut-short, unheld, Encodes, written, not-instruction, too-short}
 use Rattle.codes.proofs.Laws.{code-sized}
 use Rattle.layout.specs.Names.{Instruction, Decoded, Code, NoCode, Encoded, Written, NotWritten, NotInstruction, LentTooShort}
 use Rattle.layout.specs.declared.rows.Named.{Named}
@@ -18,22 +18,28 @@ use Rattle.layout.specs.Rows.{rowOf, seven, numbersOf}
 use Rattle.layout.specs.MirrorRows.{namedOf}
 use Rattle.layout.specs.MirrorLent.{rowIn}
 use Rattle.layout.proofs.Named.{named-valid, named-is, named-none, first-seven, seven-one}
-use Rattle.host.specs.Answers.{Noted, noted}
-use Rattle.host.specs.Codes.{Decoding, decoding, decodeLeft, DecodeCall, decoded, Encoding, encoding, withOut, Spells, encodeTold, EncodeCall, unspelt, encoded}
+use Rattle.host.specs.Answers.{Noted, noted, refusedWith, tell}
+use Rattle.host.specs.Codes.{Decoding, decoding, decodeLeft, DecodeCall, fields-short, decoded, Encoding, encoding, withOut, Spells, encodeTold, EncodeCall, unspelt, encoded}
 use Rattle.host.specs.MirrorCodes.{putOf, namedIn, EncodesNamed, named, unnamed, tellOf}
+use Rattle.host.proofs.Told.{fill}
 
 fits : (i : Instruction) {n : ℕ} → Valid i → n ≡ lengthOf i → n % 0x100000000 ≡ lengthOf i
 fits i v e = let s = code-sized i v in omega (arith, e, s .most)
 
-put-is : (fields : List ℕ) {s : List ℕ} {d : Decoded} → Decodes 0 s d → putOf fields d ≡ decodeLeft fields d
+put-is : (fields answer : List ℕ) {s : List ℕ} {d : Decoded} → Decodes 0 s d → putOf fields answer d ≡ decodeLeft fields answer d
 unfolding putOf decodeLeft numbersOf
-put-is fields (accepted {i} v e b) = rw (fits i v e)
-put-is fields (cut-short i v b) = refl
-put-is fields (unknown u) = refl
+put-is fields answer (accepted {i} v e b) = rw (fits i v e)
+put-is fields answer (cut-short i v b) = refl
+put-is fields answer (unheld u) = refl
 
-pub decode-call : {s fields after : List ℕ} {n : ℕ} {d : Decoded} → 9 ≤ length fields → Decodes 0 s d → decoding n after ≡ putOf fields d
-    → DecodeCall s fields (decoding n after)
-decode-call {s} {fields} h d e = subst (λ (x : Decoding). DecodeCall s fields x) (sym (e ∙ put-is fields d)) (decoded h d)
+module _ {s fields answer new : List ℕ} {n : ℕ} (h : 3 ≤ length answer) where
+  pub decode-short : length fields < 9 → noted n new ≡ tell (refusedWith (LentTooShort 9) []) answer → DecodeCall s fields answer (decoding n fields new)
+  unfolding decodeLeft
+  decode-short k e = subst (λ (x : Decoding). DecodeCall s fields answer x) (sym (fill e refl)) (fields-short h k)
+
+  pub decode-call : {after : List ℕ} {d : Decoded} → 9 ≤ length fields → Decodes 0 s d → decoding n after new ≡ putOf fields answer d
+      → DecodeCall s fields answer (decoding n after new)
+  decode-call k d e = subst (λ (x : Decoding). DecodeCall s fields answer x) (sym (e ∙ put-is fields answer d)) (decoded h k d)
 
 -- ---- h8_encode
 
@@ -62,7 +68,7 @@ tell-is answer {i} (written {n} v e l k) = let h : n % 0x100000000 ≡ n = fits 
 tell-is answer (not-instruction n k) = refl
 tell-is answer (too-short v e l k) = refl
 
-module _ (fields out answer new now : List ℕ) (n : ℕ) (h : 3 ≤ length answer) where
+module _ (fields out answer new now : List ℕ) (n : ℕ) (h : 4 ≤ length answer) where
   put-beside : (after : List ℕ) (e : Encoded) → new ≡ after → noted n now ≡ encodeTold e answer → EncodeCall fields out answer (withOut after (encodeTold e answer))
       → EncodeCall fields out answer (encoding n new now)
   put-beside after e p q c =
@@ -90,6 +96,6 @@ module _ (fields out answer new now : List ℕ) (n : ℕ) (h : 3 ≤ length answ
   by-name NamesNone m (unnamed e k) q =
       absent (λ i s. let d = spells-names fields s in let z : _≡_ {A = ℕ} 0 1 = cc in omega arith) k (q ∙ rw e refl)
 
-pub encode-call : {fields out answer new now : List ℕ} {n : ℕ} {e : Encoded} {m : Named} → 3 ≤ length answer → m ≡ namedIn fields → EncodesNamed out new e m
+pub encode-call : {fields out answer new now : List ℕ} {n : ℕ} {e : Encoded} {m : Named} → 4 ≤ length answer → m ≡ namedIn fields → EncodesNamed out new e m
     → noted n now ≡ tellOf e answer → EncodeCall fields out answer (encoding n new now)
 encode-call {fields} {out} {answer} {new} {now} {n} {e} {m} h p c q = by-name fields out answer new now n h m (sym p) c q

@@ -6,7 +6,7 @@ use native.Mathlib.Omega.{arith}
 use lib.ListN.{length, getD}
 use Rattle.refusal.specs.Refusals.{numberOf}
 use Rattle.refusal.specs.declared.Refusal.{Refusal}
-use Rattle.refusal.specs.declared.Refusal.the-variants.{BadBoard, FetchOutside, UnknownCode, CutShort, ReadOutside, WriteOutside, NoAdjustRow, BadEntry, NotFollowed, NotUpward, NotInstruction, BudgetTooLarge, LentTooShort, DivideFails}
+use Rattle.refusal.specs.declared.Refusal.the-variants.{BadBoard, FetchOutside, UnknownCode, CutShort, ReadOutside, WriteOutside, NoAdjustRow, BadEntry, NotFollowed, NotUpward, NotInstruction, BudgetTooLarge, LentTooShort, DivideFails, LeftOut}
 use Rattle.figure.specs.Answer.{RefusedExactly}
 use Rattle.figure.specs.Bound.{RunsKept}
 use Rattle.figure.specs.declared.Verdict.{Verdict}
@@ -31,15 +31,16 @@ numbered NotInstruction = omega arith
 numbered BudgetTooLarge = omega arith
 numbered (LentTooShort n) = omega arith
 numbered (DivideFails p) = omega arith
+numbered (LeftOut x) = omega arith
 
 module _ (answer : List ℕ) {new : List ℕ} {n : ℕ} where
   returned-figure : (k : ℕ) → noted n new ≡ figureTold (Longest k) answer → n ≡ 0
   unfolding figureTold tell
   returned-figure k e = ap (λ (m : Noted). m .returned) e
 
-  answered-figure : (k : ℕ) → noted n new ≡ figureTold (Longest k) answer → getD new 2 0 ≡ k
+  answered-figure : (k : ℕ) → noted n new ≡ figureTold (Longest k) answer → getD new 3 0 ≡ k
   unfolding figureTold tell overwrite
-  answered-figure k e = ap (λ (m : Noted). getD (m .answer) 2 0) e
+  answered-figure k e = ap (λ (m : Noted). getD (m .answer) 3 0) e
 
   returned-refusal : (f : Refusal) → noted n new ≡ figureTold (Forbids f) answer → n ≡ 0 → ⊥
   unfolding figureTold refuse tell

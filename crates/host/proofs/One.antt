@@ -8,7 +8,7 @@ use Rattle.decoder.proofs.Laws.{decodes-one}
 use Rattle.encoder.proofs.Laws.{encodes-one}
 use Rattle.layout.specs.Names.{Instruction}
 use Rattle.figure.proofs.Answered.{figured-one}
-use Rattle.host.specs.Codes.{decodeLeft, DecodeCall, fields-short, decoded, Spells, EncodeCall, answer-short, unspelt, encoded}
+use Rattle.host.specs.Codes.{decodeLeft, DecodeCall, untold, fields-short, decoded, Spells, EncodeCall, answer-short, unspelt, encoded}
 use Rattle.host.specs.Steps.{stepCall, runCall}
 use Rattle.host.specs.Figures as figures
 use Rattle.host.specs.Figures.{FigureCall, figured, wayCall}
@@ -22,11 +22,16 @@ One {A} P = (x y : A) → P x → P y → x ≡ y
 equal : {A : Type 0} (z : A) → One (λ (x : A). x ≡ z)
 equal z x y p q = p ∙ sym q
 
-pub decode-one : (bytes fields : List ℕ) → One (DecodeCall bytes fields)
-decode-one bytes fields x y (fields-short h) (fields-short k) = refl
-decode-one bytes fields x y (fields-short h) (decoded k d) = absurd (omega arith)
-decode-one bytes fields x y (decoded h d) (fields-short k) = absurd (omega arith)
-decode-one bytes fields x y (decoded h d) (decoded k e) = ap (decodeLeft fields) (decodes-one d e)
+pub decode-one : (bytes fields answer : List ℕ) → One (DecodeCall bytes fields answer)
+decode-one bytes fields answer x y (untold h) (untold k) = refl
+decode-one bytes fields answer x y (untold h) (fields-short k l) = absurd (omega arith)
+decode-one bytes fields answer x y (untold h) (decoded k l d) = absurd (omega arith)
+decode-one bytes fields answer x y (fields-short h l) (untold k) = absurd (omega arith)
+decode-one bytes fields answer x y (fields-short h l) (fields-short k m) = refl
+decode-one bytes fields answer x y (fields-short h l) (decoded k m d) = absurd (omega arith)
+decode-one bytes fields answer x y (decoded h l d) (untold k) = absurd (omega arith)
+decode-one bytes fields answer x y (decoded h l d) (fields-short k m) = absurd (omega arith)
+decode-one bytes fields answer x y (decoded h l d) (decoded k m e) = ap (decodeLeft fields answer) (decodes-one d e)
 
 spells-one : {fields : List ℕ} {i j : Instruction} → Spells fields i → Spells fields j → i ≡ j
 spells-one {fields} s t = cc (spells-names fields s, spells-names fields t)

@@ -3,7 +3,7 @@ use Prim.Native.Nat.{ℕ}
 use mathlib.Core.List.{List, [], _∷_}
 use lib.ListN.{getD}
 use Rattle.refusal.specs.declared.Refusal.{Refusal}
-use Rattle.refusal.specs.Refusals.{numberOf, placeOf}
+use Rattle.refusal.specs.Refusals.{numberOf, placeOf, groupOf}
 use Rattle.layout.specs.Lent.{overwrite}
 
 -- what is returned, and the lent answer afterwards
@@ -14,10 +14,17 @@ pub record Noted : Type 0 where
 abbrev pub noted : ℕ → List ℕ → Noted
 noted n a = record { returned = n; answer = a }
 
+-- every answer begins number, place, group
+abbrev pub completed : List ℕ → List ℕ
+completed more = 0 ∷ 0 ∷ 0 ∷ more
+
+abbrev pub refusedWith : Refusal → List ℕ → List ℕ
+refusedWith f more = numberOf f ∷ placeOf f ∷ groupOf f ∷ more
+
 -- the first number is returned, too; numbers past those of the answer stay as they were
 unfoldable pub tell : List ℕ → List ℕ → Noted
 tell xs answer = noted (getD xs 0 0) (overwrite xs answer)
 
--- a refusal: [number, place, 0]
+-- a refusal: [number, place, group, 0]
 unfoldable pub refuse : Refusal → List ℕ → Noted
-refuse f answer = tell (numberOf f ∷ placeOf f ∷ 0 ∷ []) answer
+refuse f answer = tell (refusedWith f (0 ∷ [])) answer

@@ -16,7 +16,7 @@ use Rattle.listing.specs.Listing.{flowAt}
 use Rattle.paths.specs.Paths.{Meets}
 use Rattle.paths.specs.declared.WayOn.{WayOn}
 use Rattle.paths.specs.declared.WayOn.the-variants.{On, Home, NoWay}
-use Rattle.host.specs.Answers.{Noted, noted, tell, refuse}
+use Rattle.host.specs.Answers.{Noted, noted, completed, tell, refuse}
 
 -- ---- h8_figure
 
@@ -32,35 +32,35 @@ figuring n t a = record { returned = n; table = t; answer = a }
 abbrev pub withTable : List ℕ → Noted → Figuring
 withTable table n = figuring (n .returned) table (n .answer)
 
--- [0, 0, figure], or a refusal
+-- [0, 0, 0, figure], or a refusal
 unfoldable pub figureTold : Verdict → List ℕ → Noted
-figureTold (Longest n) answer = tell (0 ∷ 0 ∷ n ∷ []) answer
+figureTold (Longest n) answer = tell (completed (n ∷ [])) answer
 figureTold (Forbids f) answer = refuse f answer
 
 -- 13 for the answer; then what the figure of the routine promises (`Figured`)
 pub data FigureCall (rom : List ℕ) (entry : ℕ) (table answer : List ℕ) : Figuring → Type 0 where
-  answer-short : length answer < 3 → FigureCall rom entry table answer (figuring 13 table answer)
-  figured : {v : Verdict} {after : List ℕ} → 3 ≤ length answer → Figured rom entry table v after
+  answer-short : length answer < 4 → FigureCall rom entry table answer (figuring 13 table answer)
+  figured : {v : Verdict} {after : List ℕ} → 4 ≤ length answer → Figured rom entry table v after
       → FigureCall rom entry table answer (withTable after (figureTold v answer))
 
 -- with room for the answer, and the memory, the entry and the table fit, a refusal is returned exactly when a path meets a forbidden place
 abbrev pub FigureExactly : List ℕ → ℕ → List ℕ → List ℕ → ℕ → Type 0
 FigureExactly rom entry table answer returned =
-    3 ≤ length answer → askedOf (length rom) (length table) entry ≡ Fit
+    4 ≤ length answer → askedOf (length rom) (length table) entry ≡ Fit
     → (returned ≡ 0 → ⊥) ↔ ((f : ℕ) × Meets (flowAt rom) entry f)
 
--- demand 3: where 0 is returned, every run on every good board with that code keeps to answer[2]
+-- demand 3: where 0 is returned, every run on every good board with that code keeps to answer[3]
 abbrev pub FigureKept : List ℕ → ℕ → ℕ → List ℕ → Type 0
-FigureKept rom entry returned answer = returned ≡ 0 → RunsKept rom entry (Longest (getD answer 2 0))
+FigureKept rom entry returned answer = returned ≡ 0 → RunsKept rom entry (Longest (getD answer 3 0))
 
 -- ---- h8_way
 
--- [0, 0, next place], 16,777,215 for a return; or a refusal
+-- [0, 0, 0, next place], 16,777,215 for a return; or a refusal
 unfoldable pub wayTold : WayOn → List ℕ → Noted
-wayTold (On p) answer = tell (0 ∷ 0 ∷ p ∷ []) answer
-wayTold Home answer = tell (0 ∷ 0 ∷ 16777215 ∷ []) answer
+wayTold (On p) answer = tell (completed (p ∷ [])) answer
+wayTold Home answer = tell (completed (16777215 ∷ [])) answer
 wayTold (NoWay f) answer = refuse f answer
 
 -- 13 for the answer; then the way. What that is, `WayTold` says.
 unfoldable pub wayCall : List ℕ → List ℕ → ℕ → List ℕ → Noted
-wayCall rom table place answer = cond (ltb (length answer) 3) (noted 13 answer) (wayTold (wayOf rom table place) answer)
+wayCall rom table place answer = cond (ltb (length answer) 4) (noted 13 answer) (wayTold (wayOf rom table place) answer)

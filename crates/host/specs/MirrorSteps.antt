@@ -8,7 +8,7 @@ use Rattle.step.specs.declared.StepAnswer.{StepAnswer}
 use Rattle.run.specs.declared.RunAnswer.{RunAnswer}
 use Rattle.layout.specs.Lent.{overwrite}
 use Rattle.layout.specs.Registers.{registersOf, tenOf}
-use Rattle.host.specs.Answers.{Noted, tell, refuse}
+use Rattle.host.specs.Answers.{Noted, completed, tell, refuse}
 use Rattle.host.specs.Steps.{Left, left, board, runAnswer}
 
 pub record Kept : Type 0 where
@@ -23,7 +23,7 @@ abbrev pub keeping : List ℕ → Noted → Kept
 keeping regs n = kept (n .returned) regs (n .answer)
 
 unfoldable pub stepTold : Outcome → StepAnswer → List ℕ → List ℕ → Kept
-stepTold Done q regs answer = keeping (overwrite (tenOf (q .regs)) regs) (tell (0 ∷ 0 ∷ q .states ∷ []) answer)
+stepTold Done q regs answer = keeping (overwrite (tenOf (q .regs)) regs) (tell (completed (q .states ∷ [])) answer)
 stepTold (Refused f) q regs answer = keeping regs (refuse f answer)
 
 unfoldable pub stepLent : ℕ → List ℕ → List ℕ → List ℕ → List ℕ → Left

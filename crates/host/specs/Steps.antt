@@ -4,7 +4,6 @@ use mathlib.Core.Bool.{cond}
 use mathlib.Core.List.{List, [], _∷_}
 use lib.Dec.{ltb}
 use lib.ListN.{length, getD}
-use Rattle.refusal.specs.Refusals.{numberOf, placeOf}
 use Rattle.refusal.specs.declared.Refusal.{Refusal}
 use Rattle.refusal.specs.declared.Refusal.the-variants.{BadBoard, BudgetTooLarge, LentTooShort}
 use Rattle.refusal.specs.declared.Outcome.{Outcome}
@@ -15,8 +14,8 @@ use Rattle.run.specs.Run.{Ran, runOf}
 use Rattle.run.specs.declared.Ending.{Ending}
 use Rattle.run.specs.declared.Ending.the-variants.{AtStop, Spent, Halted}
 use Rattle.layout.specs.Lent.{overwrite}
-use Rattle.layout.specs.Registers.{registersOf, tenOf}
-use Rattle.host.specs.Answers.{Noted, tell, refuse}
+use Rattle.layout.specs.Registers.{registersLength, registersOf, tenOf}
+use Rattle.host.specs.Answers.{Noted, completed, refusedWith, tell, refuse}
 
 -- what is returned, and working memory, the registers' numbers and the answer afterwards
 pub record Left : Type 0 where
@@ -36,28 +35,28 @@ board base = record { base = base }
 
 -- ---- h8_step
 
--- a step that is done leaves working memory and registers as it says, with [0, 0, states]; a refused one leaves both as they were
+-- a step that is done leaves working memory and registers as it says, with [0, 0, 0, states]; a refused one leaves both as they were
 unfoldable pub stepLeft : Outcome → After → List ℕ → List ℕ → List ℕ → Left
 stepLeft Done a ram regs answer =
-    leaving (a .mem) (overwrite (tenOf (a .answer .regs)) regs) (tell (0 ∷ 0 ∷ a .answer .states ∷ []) answer)
+    leaving (a .mem) (overwrite (tenOf (a .answer .regs)) regs) (tell (completed (a .answer .states ∷ [])) answer)
 stepLeft (Refused f) a ram regs answer = leaving ram regs (refuse f answer)
 
 -- 13 for the answer; 13 for the registers; 1 for a condition number over 255; then the step
 unfoldable pub stepCall : ℕ → List ℕ → List ℕ → List ℕ → List ℕ → Left
 stepCall base rom ram regs answer =
     let a = stepOf (board base) rom ram (registersOf regs) in
-    cond (ltb (length answer) 3) (left 13 ram regs answer)
-    (cond (ltb (length regs) 10) (leaving ram regs (refuse (LentTooShort 10) answer))
+    cond (ltb (length answer) 4) (left 13 ram regs answer)
+    (cond (ltb (length regs) registersLength) (leaving ram regs (refuse (LentTooShort registersLength) answer))
     (cond (ltb 255 (getD regs 9 0)) (leaving ram regs (refuse BadBoard answer))
     (stepLeft (a .answer .outcome) a ram regs answer)))
 
 -- ---- h8_run
 
--- [number, place, steps, states, ending]; enum h8_ending
+-- [number, place, group, steps, states, ending]; enum h8_ending
 unfoldable pub runAnswer : Ending → ℕ → ℕ → List ℕ
-runAnswer AtStop steps states = 0 ∷ 0 ∷ steps ∷ states ∷ 0 ∷ []
-runAnswer Spent steps states = 0 ∷ 0 ∷ steps ∷ states ∷ 1 ∷ []
-runAnswer (Halted f) steps states = numberOf f ∷ placeOf f ∷ steps ∷ states ∷ 2 ∷ []
+runAnswer AtStop steps states = completed (steps ∷ states ∷ 0 ∷ [])
+runAnswer Spent steps states = completed (steps ∷ states ∷ 1 ∷ [])
+runAnswer (Halted f) steps states = refusedWith f (steps ∷ states ∷ 2 ∷ [])
 
 -- working memory and registers are as the completed steps leave them, whatever the ending
 unfoldable pub runLeft : Ran → List ℕ → List ℕ → Left
@@ -69,8 +68,8 @@ runLeft a regs answer =
 unfoldable pub runCall : ℕ → List ℕ → List ℕ → List ℕ → ℕ → ℕ → List ℕ → Left
 runCall base rom ram regs stop budget answer =
     let halted : Refusal → Left = λ f. leaving ram regs (tell (runAnswer (Halted f) 0 0) answer) in
-    cond (ltb (length answer) 5) (left 13 ram regs answer)
-    (cond (ltb (length regs) 10) (halted (LentTooShort 10))
+    cond (ltb (length answer) 6) (left 13 ram regs answer)
+    (cond (ltb (length regs) registersLength) (halted (LentTooShort registersLength))
     (cond (ltb 1000000 budget) (halted BudgetTooLarge)
     (cond (ltb 255 (getD regs 9 0)) (halted BadBoard)
     (runLeft (runOf (board base) rom ram (registersOf regs) stop budget) regs answer))))

@@ -5,7 +5,7 @@ ghost use lib.ListN.{length};
 ghost use Rattle.host.specs.Answers.{noted, tell};
 ghost use Rattle.host.specs.Steps.{left, board, stepCall, runAnswer, runLeft, runCall};
 ghost use Rattle.host.specs.MirrorSteps.{kept, stepTold, stepLent, runTold};
-ghost use Rattle.layout.specs.Registers.{registersOf};
+ghost use Rattle.layout.specs.Registers.{registersLength, registersOf};
 ghost use Rattle.run.specs.Run.{runOf};
 use crate::answers;
 use layout::lent;
@@ -18,7 +18,7 @@ use step::StepAnswer;
 
 // A completed step's registers and states, or a refusal that leaves the registers.
 fn tell_step(q: StepAnswer, regs: &mut [u32], answer: &mut [u32]) -> u32
-    requires { ⌜ (10 ≤ length (now regs)) × (3 ≤ length (now answer)) ⌝ }
+    requires { ⌜ (registersLength ≤ length (now regs)) × (4 ≤ length (now answer)) ⌝ }
     ensures { λ n. ⌜ kept n (now (regs .exit)) (now (answer .exit)) ≡ stepTold (q .outcome) q (now (regs .entry)) (now (answer .entry)) ⌝ }
 {
     let o = q.outcome;
@@ -26,14 +26,14 @@ fn tell_step(q: StepAnswer, regs: &mut [u32], answer: &mut [u32]) -> u32
         Outcome::Done => {
             let r = q.regs;
             lent::put_registers(regs, r);
-            answers::told(answer, 0, 0, q.states)
+            answers::told(answer, 0, 0, 0, q.states)
         }
         Outcome::Refused(f) => answers::refused(answer, f),
     }
 }
 
 fn step_lent(base: u32, rom: &[u8], ram: &mut [u8], regs: &mut [u32], answer: &mut [u32]) -> u32
-    requires { ⌜ (10 ≤ length (now regs)) × (3 ≤ length (now answer)) ⌝ }
+    requires { ⌜ (registersLength ≤ length (now regs)) × (4 ≤ length (now answer)) ⌝ }
     ensures { λ n. ⌜ left n (now (ram .exit)) (now (regs .exit)) (now (answer .exit)) ≡ stepLent base (now (rom .entry)) (now (ram .entry)) (now (regs .entry)) (now (answer .entry)) ⌝ }
 {
     let b = Board { base: base };
@@ -51,11 +51,11 @@ pub extern "C" fn h8_step(
 ) -> u32
     ensures { λ n. ⌜ left n (now (ram .exit)) (now (regs .exit)) (now (answer .exit)) ≡ stepCall base (now (rom .entry)) (now (ram .entry)) (now (regs .entry)) (now (answer .entry)) ⌝ }
 {
-    if answer.len() < 3 {
+    if answer.len() < 4 {
         return 13;
     }
-    if regs.len() < 10 {
-        return answers::refused(answer, Refusal::LentTooShort(10));
+    if regs.len() < lent::REGISTERS {
+        return answers::refused(answer, Refusal::LentTooShort(lent::REGISTERS as u32));
     }
     if 255 < lent::number_at(&regs[..], 9) {
         return answers::refused(answer, Refusal::BadBoard);
@@ -64,18 +64,26 @@ pub extern "C" fn h8_step(
 }
 
 fn tell_ending(why: Ending, steps: u32, states: u64, answer: &mut [u64]) -> u32
-    requires { ⌜ 5 ≤ length (now answer) ⌝ }
+    requires { ⌜ 6 ≤ length (now answer) ⌝ }
     ensures { λ n. ⌜ noted n (now (answer .exit)) ≡ tell (runAnswer why steps states) (now (answer .entry)) ⌝ }
 {
     match why {
-        Ending::AtStop => answers::told_five(answer, 0, 0, steps, states, 0),
-        Ending::Spent => answers::told_five(answer, 0, 0, steps, states, 1),
-        Ending::Halted(f) => answers::told_five(answer, f.number(), f.place(), steps, states, 2),
+        Ending::AtStop => answers::told_six(answer, 0, 0, 0, steps, states, 0),
+        Ending::Spent => answers::told_six(answer, 0, 0, 0, steps, states, 1),
+        Ending::Halted(f) => answers::told_six(
+            answer,
+            f.number(),
+            f.place(),
+            f.group(),
+            steps,
+            states,
+            2,
+        ),
     }
 }
 
 fn tell_run(q: RunAnswer, regs: &mut [u32], answer: &mut [u64]) -> u32
-    requires { ⌜ (10 ≤ length (now regs)) × (5 ≤ length (now answer)) ⌝ }
+    requires { ⌜ (registersLength ≤ length (now regs)) × (6 ≤ length (now answer)) ⌝ }
     ensures { λ n. ⌜ kept n (now (regs .exit)) (now (answer .exit)) ≡ runTold q (now (regs .entry)) (now (answer .entry)) ⌝ }
 {
     let r = q.regs;
@@ -93,7 +101,7 @@ fn run_lent(
     budget: u32,
     answer: &mut [u64],
 ) -> u32
-    requires { ⌜ (10 ≤ length (now regs)) × (5 ≤ length (now answer)) ⌝ }
+    requires { ⌜ (registersLength ≤ length (now regs)) × (6 ≤ length (now answer)) ⌝ }
     ensures { λ n. ⌜ left n (now (ram .exit)) (now (regs .exit)) (now (answer .exit)) ≡ runLeft (runOf (board base) (now (rom .entry)) (now (ram .entry)) (registersOf (now (regs .entry))) stop budget) (now (regs .entry)) (now (answer .entry)) ⌝ }
 {
     let b = Board { base: base };
@@ -113,11 +121,16 @@ pub extern "C" fn h8_run(
 ) -> u32
     ensures { λ n. ⌜ left n (now (ram .exit)) (now (regs .exit)) (now (answer .exit)) ≡ runCall base (now (rom .entry)) (now (ram .entry)) (now (regs .entry)) stop budget (now (answer .entry)) ⌝ }
 {
-    if answer.len() < 5 {
+    if answer.len() < 6 {
         return 13;
     }
-    if regs.len() < 10 {
-        return tell_ending(Ending::Halted(Refusal::LentTooShort(10)), 0, 0, answer);
+    if regs.len() < lent::REGISTERS {
+        return tell_ending(
+            Ending::Halted(Refusal::LentTooShort(lent::REGISTERS as u32)),
+            0,
+            0,
+            answer,
+        );
     }
     if 1000000 < budget {
         return tell_ending(Ending::Halted(Refusal::BudgetTooLarge), 0, 0, answer);

@@ -5,6 +5,9 @@ use lib.ListN.{getD}
 use Rattle.registers.specs.Condition.{conditionOf, byteOf}
 use Rattle.registers.specs.declared.Registers.{Registers}
 
+abbrev pub registersLength : ℕ
+registersLength = 10
+
 unfoldable pub registersOf : List ℕ → Registers
 registersOf l =
     record {

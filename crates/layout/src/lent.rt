@@ -11,6 +11,9 @@ use crate::rows::Row;
 use registers::Condition;
 use registers::Registers;
 
+// How many numbers lent registers are; `registersLength` in the definitions, H8_REGISTERS in host/h8.h.
+pub const REGISTERS: usize = 10;
+
 pub fn number_at(l: &[u32], i: usize) -> u32
     ensures { λ r. ⌜ r ≡ getD (now (l .entry)) i 0 ⌝ }
 {
@@ -33,7 +36,7 @@ pub fn put_wide(l: &mut [u64], i: usize, x: u64)
     }
 }
 
-// An answer of three numbers.
+// The numbers of an answer: each begins number, place, group.
 pub fn put_three(l: &mut [u32], a: u32, b: u32, c: u32)
     ensures { λ _. ⌜ now (l .exit) ≡ sets (now (l .entry)) 0 (a ∷ b ∷ c ∷ []) ⌝ }
 {
@@ -42,20 +45,28 @@ pub fn put_three(l: &mut [u32], a: u32, b: u32, c: u32)
     put(l, 2, c)
 }
 
-pub fn put_three_wide(l: &mut [u64], a: u64, b: u64, c: u64)
-    ensures { λ _. ⌜ now (l .exit) ≡ sets (now (l .entry)) 0 (a ∷ b ∷ c ∷ []) ⌝ }
+pub fn put_four(l: &mut [u32], a: u32, b: u32, c: u32, d: u32)
+    ensures { λ _. ⌜ now (l .exit) ≡ sets (now (l .entry)) 0 (a ∷ b ∷ c ∷ d ∷ []) ⌝ }
+{
+    put_three(l, a, b, c);
+    put(l, 3, d)
+}
+
+pub fn put_four_wide(l: &mut [u64], a: u64, b: u64, c: u64, d: u64)
+    ensures { λ _. ⌜ now (l .exit) ≡ sets (now (l .entry)) 0 (a ∷ b ∷ c ∷ d ∷ []) ⌝ }
 {
     put_wide(l, 0, a);
     put_wide(l, 1, b);
-    put_wide(l, 2, c)
+    put_wide(l, 2, c);
+    put_wide(l, 3, d)
 }
 
-pub fn put_five_wide(l: &mut [u64], a: u64, b: u64, c: u64, d: u64, e: u64)
-    ensures { λ _. ⌜ now (l .exit) ≡ sets (now (l .entry)) 0 (a ∷ b ∷ c ∷ d ∷ e ∷ []) ⌝ }
+pub fn put_six_wide(l: &mut [u64], a: u64, b: u64, c: u64, d: u64, e: u64, f: u64)
+    ensures { λ _. ⌜ now (l .exit) ≡ sets (now (l .entry)) 0 (a ∷ b ∷ c ∷ d ∷ e ∷ f ∷ []) ⌝ }
 {
-    put_three_wide(l, a, b, c);
-    put_wide(l, 3, d);
-    put_wide(l, 4, e)
+    put_four_wide(l, a, b, c, d);
+    put_wide(l, 4, e);
+    put_wide(l, 5, f)
 }
 
 pub fn row_in(l: &[u32]) -> Row

@@ -1,8 +1,9 @@
 -- Lines of one name and value, and refusals. With `plain` an answer has one name and value a line, without it a sentence or columns.
 use Prim.Native.Nat.{ℕ}
 use mathlib.Core.Bool.{Bool, cond}
-use mathlib.Core.List.{List, _++_}
-use Rattle.refusal.specs.Refusals.{numberOf, placeOf as placeGiven}
+use mathlib.Core.List.{List, [], _++_}
+use lib.Dec.{eqb}
+use Rattle.refusal.specs.Refusals.{numberOf, placeOf as placeGiven, groupOf}
 use Rattle.refusal.specs.declared.Refusal.{Refusal}
 use Rattle.text.specs.Lines.{ascii}
 use Rattle.text.specs.Numbers.{placeOf, decimalOf}
@@ -14,8 +15,12 @@ numberLine name n = name ++ (ascii " " ++ (decimalOf n ++ ascii "\n"))
 abbrev pub placeLine : List ℕ → ℕ → List ℕ
 placeLine name p = name ++ (ascii " " ++ (placeOf p ++ ascii "\n"))
 
+-- the group of a code that is left out; other refusals have none
+unfoldable pub groupLine : ℕ → List ℕ
+groupLine g = cond (eqb g 0) [] (numberLine (ascii "group") g)
+
 abbrev pub numberedText : Refusal → List ℕ
-numberedText f = numberLine (ascii "refusal") (numberOf f) ++ (placeLine (ascii "place") (placeGiven f) ++ ascii "why ")
+numberedText f = numberLine (ascii "refusal") (numberOf f) ++ (placeLine (ascii "place") (placeGiven f) ++ (groupLine (groupOf f) ++ ascii "why "))
 
 -- what stands before a refusal's words
 unfoldable pub beforeText : Refusal → Bool → List ℕ

@@ -1,7 +1,7 @@
 // Lines of one name and value, and refusals.
 ghost use mathlib.Core.Path.{_≡_};
 ghost use Rattle.text.specs.Lines.{Adds};
-ghost use Rattle.lines.specs.Parts.{numberLine, placeLine, numberedText, beforeText, refusedText};
+ghost use Rattle.lines.specs.Parts.{numberLine, placeLine, groupLine, numberedText, beforeText, refusedText};
 use refusal::Refusal;
 use text::Line;
 
@@ -23,6 +23,16 @@ pub fn place(l: Line, name: &[u8], p: u32) -> Line
     text::put(c, b'\n')
 }
 
+fn grouped(l: Line, g: u32) -> Line
+    ensures { λ r. ⌜ Adds l (groupLine g) r ⌝ }
+{
+    if g == 0 {
+        text::bytes(l, b"")
+    } else {
+        number(l, b"group", g as u64)
+    }
+}
+
 fn numbered(l: Line, f: Refusal) -> Line
     ensures { λ r. ⌜ Adds l (numberedText f) r ⌝ }
 {
@@ -30,10 +40,11 @@ fn numbered(l: Line, f: Refusal) -> Line
     let p = f.place();
     let a = number(l, b"refusal", n as u64);
     let b = place(a, b"place", p);
-    text::bytes(b, b"why ")
+    let c = grouped(b, f.group());
+    text::bytes(c, b"why ")
 }
 
-// What stands before a refusal's words; in the plain form its number and place have lines of their own.
+// What stands before a refusal's words; in the plain form its number, place and group have lines of their own.
 pub fn before(l: Line, f: Refusal, plain: bool) -> Line
     ensures { λ r. ⌜ Adds l (beforeText f plain) r ⌝ }
 {

@@ -16,7 +16,7 @@ use Rattle.codes.specs.declared.Target.the-variants.{ByReg, Direct, Vector}
 use Rattle.codes.specs.declared.Decoded.{Decoded}
 use Rattle.codes.specs.declared.Decoded.the-variants.{Code, NoCode}
 use Rattle.codes.specs.States.{statesOf, goesOf}
-use Rattle.codes.specs.Exact.{Bytes, Decodes, accepted, cut-short, unknown}
+use Rattle.codes.specs.Exact.{Bytes, Decodes, accepted, cut-short, unheld}
 use Rattle.codes.proofs.Laws.{states-range, code-sized, bytes-drop}
 use Rattle.decoder.proofs.Laws.{exact}
 use Rattle.flow.specs.Targets.{nextOf, targetOf}
@@ -64,7 +64,7 @@ kept-found p z (NoCode r) e = record { ways = λ q w. absurd w; few = omega arit
 even-of : {place : ℕ} {s : List ℕ} {d : Decoded} → Decodes place s d → EvenLength d
 even-of (accepted {i = i} v e b) = omega (arith, e, code-sized i v .even)
 even-of (cut-short i v k) = tt
-even-of (unknown f) = tt
+even-of (unheld f) = tt
 
 -- what is decoded at a place is what the code list says of the bytes from there
 pub decoded-exact : (rom : List ℕ) (p : ℕ) → Bytes rom → Decodes p (drop p rom) (decodedAt rom p)

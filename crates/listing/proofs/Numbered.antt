@@ -1,16 +1,19 @@
--- A forbidden place's refusal names that place, and has the number 2, 3, 4, 9 or 10.
+-- A forbidden place's refusal names that place, and has the number 2, 3, 4, 9, 10 or 15.
 -- Assumes nothing.
 use mathlib.Core.Path.{_≡_, refl, subst}
 use mathlib.Core.Logic.{_⊎_, inl, inr, ⊎-elim}
 use mathlib.Core.List.{List}
 use mathlib.Core.Bool.{Bool, true, false, cond}
-use Prim.Native.Nat.{ℕ}
+use Prim.Native.Nat.{ℕ, _<_}
 use lib.Dec.{eqb}
 use lib.ListN.{length, drop}
 use borrow.Author.Tests.{le-leb, lt-leb}
 use Rattle.refusal.specs.declared.Refusal.{Refusal}
-use Rattle.refusal.specs.declared.Refusal.the-variants.{FetchOutside, UnknownCode, CutShort, NotFollowed, NotUpward}
+use Rattle.refusal.specs.declared.Refusal.the-variants.{FetchOutside, CutShort, NotFollowed, NotUpward}
 use Rattle.refusal.specs.Refusals.{numberOf, placeOf}
+use Rattle.left.specs.Left.{groupIn, leftOut}
+use Rattle.left.specs.Unheld.{unheldOf}
+use Rattle.left.proofs.Named.{unheld-place, unheld-number}
 use Rattle.codes.specs.declared.Goes.{Goes}
 use Rattle.codes.specs.declared.Goes.the-variants.{Onward, Branches, Jumps, CallsNear, Calls, Returns}
 use Rattle.codes.specs.declared.Target.{Target}
@@ -28,13 +31,13 @@ use Rattle.listing.specs.Listing.{branchFlow, jumpFlow, goesFlow, foundF
 
 pub record Named (p : ℕ) (r : Refusal) : Type 0 where
   pub place : placeOf r ≡ p
-  pub number : (numberOf r ≡ 2) ⊎ ((numberOf r ≡ 3) ⊎ ((numberOf r ≡ 4) ⊎ ((numberOf r ≡ 9) ⊎ (numberOf r ≡ 10))))
+  pub number : (numberOf r ≡ 2) ⊎ ((numberOf r ≡ 3) ⊎ ((numberOf r ≡ 4) ⊎ ((numberOf r ≡ 9) ⊎ ((numberOf r ≡ 10) ⊎ (numberOf r ≡ 15)))))
 
 outside : (p : ℕ) → Named p (FetchOutside p)
 outside p = record { place = refl; number = inl refl }
 
-unknown : (p : ℕ) → Named p (UnknownCode p)
-unknown p = record { place = refl; number = inr (inl refl) }
+unheld : (p g : ℕ) → p < 16777216 → Named p (unheldOf p g)
+unheld p g h = record { place = unheld-place p g h; number = ⊎-elim (λ e. inr (inl e)) (λ e. inr (inr (inr (inr (inr e))))) (unheld-number p g) }
 
 short : (p : ℕ) → Named p (CutShort p)
 short p = record { place = refl; number = inr (inr (inl refl)) }
@@ -43,7 +46,7 @@ not-followed : (p : ℕ) → Named p (NotFollowed p)
 not-followed p = record { place = refl; number = inr (inr (inr (inl refl))) }
 
 not-upward : (p : ℕ) → Named p (NotUpward p)
-not-upward p = record { place = refl; number = inr (inr (inr (inr refl))) }
+not-upward p = record { place = refl; number = inr (inr (inr (inr (inl refl)))) }
 
 -- what an instruction's flow stops by
 abbrev Says : ℕ → Flow → Type 0
@@ -73,19 +76,19 @@ says-goes p n s (CallsNear reach) = not-followed p
 says-goes p n s (Calls target) = not-followed p
 says-goes p n s Returns = tt
 
-says-found : (p : ℕ) (d : Decoded) → ((r : Refusal) → d ≡ NoCode r → (r ≡ CutShort p) ⊎ (r ≡ UnknownCode p)) → Says p (foundFlow p d)
+says-found : (p g : ℕ) → p < 16777216 → (d : Decoded) → ((r : Refusal) → d ≡ NoCode r → (r ≡ CutShort p) ⊎ (r ≡ unheldOf p g)) → Says p (foundFlow p d)
 unfolding foundFlow
-says-found p (Code i n) h = says-goes p (nextOf p n) (statesOf i) (goesOf i)
-says-found p (NoCode r) h = ⊎-elim (λ e. rw e (short p)) (λ e. rw e (unknown p)) (h r refl)
+says-found p g l (Code i n) h = says-goes p (nextOf p n) (statesOf i) (goesOf i)
+says-found p g l (NoCode r) h = ⊎-elim (λ e. rw e (short p)) (λ e. rw e (unheld p g l)) (h r refl)
 
-refused-decoded : (rom : List ℕ) (p : ℕ) (r : Refusal) → decodedAt rom p ≡ NoCode r → (r ≡ CutShort p) ⊎ (r ≡ UnknownCode p)
+refused-decoded : (rom : List ℕ) (p : ℕ) (r : Refusal) → decodedAt rom p ≡ NoCode r → (r ≡ CutShort p) ⊎ (r ≡ unheldOf p (groupIn leftOut (drop p rom)))
 unfolding decodedAt
 refused-decoded rom p r e = refused-at p (drop p rom) r e
 
-says-at : (rom : List ℕ) (p : ℕ) → Says p (flowAt rom p)
+says-at : (rom : List ℕ) (p : ℕ) → p < 16777216 → Says p (flowAt rom p)
 unfolding flowAt
-says-at rom p = ⊎-elim (λ h. rw (le-leb (length rom) p h) (outside p)) (λ h. rw (lt-leb (length rom) p h) (says-found p (decodedAt rom p) (refused-decoded rom p))) (le-or (length rom) p)
+says-at rom p l = ⊎-elim (λ h. rw (le-leb (length rom) p h) (outside p)) (λ h. rw (lt-leb (length rom) p h) (says-found p _ l (decodedAt rom p) (refused-decoded rom p))) (le-or (length rom) p)
 
-pub forbidden-named : (rom : List ℕ) {p : ℕ} {r : Refusal} → Forbidden (flowAt rom) p r → Named p r
-forbidden-named rom {p} (stop e) = subst (λ (f : Flow). Says p f) e (says-at rom p)
-forbidden-named rom {p} (back w h) = not-upward p
+pub forbidden-named : (rom : List ℕ) {p : ℕ} {r : Refusal} → p < 16777216 → Forbidden (flowAt rom) p r → Named p r
+forbidden-named rom {p} l (stop e) = subst (λ (f : Flow). Says p f) e (says-at rom p l)
+forbidden-named rom {p} l (back w h) = not-upward p

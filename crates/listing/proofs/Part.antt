@@ -15,5 +15,5 @@ unfolding decodedAt
 part-decoded rom p = ap (λ (s : List ℕ). decodeOf p s) (take-all (length rom - p) (drop p rom) (simp length-drop (le-refl _)))
 
 -- where the decoder has found r, which is f
-pub part-found : (rom : List ℕ) (p : ℕ) {r f : Found} → r ≡ foundOf (take (length rom - p) (drop p rom)) → r ≡ f → placedOf p f ≡ decodedAt rom p
-part-found rom p e g = ap (placedOf p) (sym g ∙ e) ∙ part-decoded rom p
+pub part-found : (rom : List ℕ) (p : ℕ) {r f : Found} → r ≡ foundOf (take (length rom - p) (drop p rom)) → r ≡ f → placedOf p (take (length rom - p) (drop p rom)) f ≡ decodedAt rom p
+part-found rom p e g = ap (placedOf p (take (length rom - p) (drop p rom))) (sym g ∙ e) ∙ part-decoded rom p

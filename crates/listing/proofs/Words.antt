@@ -47,7 +47,7 @@ module _ (rom : List ℕ) (p : ℕ) (in-rom : p < length rom) (has-word : 2 ≤ 
       let first = getD-drop p rom 0 0 ∙ ap (λ (k : ℕ). getD rom k 0) (plus-zero p) in
       let second = getD-drop p rom 1 0 in
       let found = whole-word (drop p rom) i (subst (λ (k : ℕ). 2 ≤ k) (sym (length-drop p rom)) has-word) (ap₂ planOf first second ∙ e) in
-      sym (rw (lt-leb (length rom) p in-rom) (ap (λ (f : Found). foundFlow p (placedOf p f)) found))
+      sym (rw (lt-leb (length rom) p in-rom) (ap (λ (f : Found). foundFlow p (placedOf p (drop p rom) f)) found))
 
   pub branch-word : getD rom p 0 / 16 ≡ 4
       → branchFlow (getD rom p 0 % 16) (nextOf p 2) (targetOf (nextOf p 2) (Near (getD rom (p + 1) 0))) 4 ≡ flowAt rom p

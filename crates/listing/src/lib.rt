@@ -80,10 +80,11 @@ pub fn flow_at(rom: &[u8], p: u32) -> Flow
     if rom.len() <= at {
         return Flow::Stop(Refusal::FetchOutside(p));
     }
-    match decoder::whole::begins(&rom[at..]) {
+    let s = &rom[at..];
+    match decoder::whole::begins(s) {
         Found::Is(i, n) => found(p, i, n),
         Found::Cut => Flow::Stop(Refusal::CutShort(p)),
-        Found::Unlisted => Flow::Stop(Refusal::UnknownCode(p)),
+        Found::Unlisted => Flow::Stop(left::unheld(s, p)),
     }
 }
 

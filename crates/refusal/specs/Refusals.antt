@@ -1,7 +1,7 @@
 -- Document 01, "Refusal numbers", and document 02: the number of each refusal, and the place given with it.
-use Prim.Native.Nat.{ℕ}
+use Prim.Native.Nat.{ℕ, _/_, _%_, _^_}
 use Rattle.refusal.specs.declared.Refusal.{Refusal}
-use Rattle.refusal.specs.declared.Refusal.the-variants.{BadBoard, FetchOutside, UnknownCode, CutShort, ReadOutside, WriteOutside, NoAdjustRow, BadEntry, NotFollowed, NotUpward, NotInstruction, BudgetTooLarge, LentTooShort, DivideFails}
+use Rattle.refusal.specs.declared.Refusal.the-variants.{BadBoard, FetchOutside, UnknownCode, CutShort, ReadOutside, WriteOutside, NoAdjustRow, BadEntry, NotFollowed, NotUpward, NotInstruction, BudgetTooLarge, LentTooShort, DivideFails, LeftOut}
 
 abbrev pub numberOf : Refusal → ℕ
 numberOf BadBoard = 1  -- board wrong, or PC odd or at least 2^24
@@ -18,6 +18,7 @@ numberOf NotInstruction = 11  -- a field out of range
 numberOf BudgetTooLarge = 12  -- budget over 1,000,000
 numberOf (LentTooShort n) = 13  -- lent output or table too short
 numberOf (DivideFails p) = 14  -- a zero divisor, or a quotient that does not fit (document 02, W1)
+numberOf (LeftOut x) = 15  -- a code that the set leaves out, or its beginning (document 02, W2)
 
 abbrev pub placeOf : Refusal → ℕ
 placeOf BadBoard = 0
@@ -34,3 +35,22 @@ placeOf NotInstruction = 0
 placeOf BudgetTooLarge = 0
 placeOf (LentTooShort n) = n  -- needed length
 placeOf (DivideFails p) = p  -- instruction
+placeOf (LeftOut x) = x % 2 ^ 24  -- address
+
+-- the group that a left-out code is in (document 01, its first page); 0 for every other refusal
+abbrev pub groupOf : Refusal → ℕ
+groupOf BadBoard = 0
+groupOf (FetchOutside p) = 0
+groupOf (UnknownCode p) = 0
+groupOf (CutShort p) = 0
+groupOf (ReadOutside p) = 0
+groupOf (WriteOutside p) = 0
+groupOf (NoAdjustRow p) = 0
+groupOf (BadEntry p) = 0
+groupOf (NotFollowed p) = 0
+groupOf (NotUpward p) = 0
+groupOf NotInstruction = 0
+groupOf BudgetTooLarge = 0
+groupOf (LentTooShort n) = 0
+groupOf (DivideFails p) = 0
+groupOf (LeftOut x) = x / 2 ^ 24

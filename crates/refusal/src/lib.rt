@@ -1,6 +1,6 @@
 // Why an entry of this product answers no: document 01, "Refusal numbers". `specs/Refusals.antt` has that table.
 ghost use mathlib.Core.Path.{_≡_};
-ghost use Rattle.refusal.specs.Refusals.{numberOf, placeOf};
+ghost use Rattle.refusal.specs.Refusals.{numberOf, placeOf, groupOf};
 
 // A case for each number, with the place given, where it is not always 0.
 pub enum Refusal {
@@ -18,6 +18,8 @@ pub enum Refusal {
     BudgetTooLarge,
     LentTooShort(u32),
     DivideFails(u32),
+    // the address, and the group of codes above its 24 bits: one number, so that a refusal is no longer than before
+    LeftOut(u32),
 }
 
 impl Refusal {
@@ -39,6 +41,7 @@ impl Refusal {
             Refusal::BudgetTooLarge => 12,
             Refusal::LentTooShort(_) => 13,
             Refusal::DivideFails(_) => 14,
+            Refusal::LeftOut(_) => 15,
         }
     }
 
@@ -61,6 +64,30 @@ impl Refusal {
             Refusal::BudgetTooLarge => 0,
             Refusal::LentTooShort(n) => n,
             Refusal::DivideFails(p) => p,
+            Refusal::LeftOut(x) => x % 16777216,
+        }
+    }
+
+    // Of document 01's groups of codes that the set leaves out; 0 where the refusal is none of these.
+    pub fn group(self) -> u32
+        ensures { λ g. ⌜ g ≡ groupOf self ⌝ }
+    {
+        match self {
+            Refusal::BadBoard => 0,
+            Refusal::FetchOutside(_) => 0,
+            Refusal::UnknownCode(_) => 0,
+            Refusal::CutShort(_) => 0,
+            Refusal::ReadOutside(_) => 0,
+            Refusal::WriteOutside(_) => 0,
+            Refusal::NoAdjustRow(_) => 0,
+            Refusal::BadEntry(_) => 0,
+            Refusal::NotFollowed(_) => 0,
+            Refusal::NotUpward(_) => 0,
+            Refusal::NotInstruction => 0,
+            Refusal::BudgetTooLarge => 0,
+            Refusal::LentTooShort(_) => 0,
+            Refusal::DivideFails(_) => 0,
+            Refusal::LeftOut(x) => x / 16777216,
         }
     }
 }

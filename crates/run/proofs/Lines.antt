@@ -15,24 +15,25 @@ use Rattle.decoder.specs.declared.whole.Found.{Found}
 use Rattle.decoder.specs.declared.whole.Found.the-variants.{Is, Cut, Unlisted}
 use Rattle.decoder.proofs.Laws.{code-read}
 use Rattle.entry.specs.Entry.{meaningOf}
-use Rattle.entry.proofs.Laws.{packed, small, unknown-means, cut-means}
+use Rattle.entry.proofs.Laws.{packed, small, unheld-means, unheld-small, cut-means}
+use Rattle.left.proofs.Least.{small-group}
 use Rattle.run.proofs.Turns.{both}
 use Rattle.run.specs.MirrorKept.{entryOf, Means, Keeps}
 
 -- ---- the entry of bytes
 
 module _ (p : ℕ) (s : List ℕ) (b : Bytes s) where
-  means-by : (found : Found) → foundOf s ≡ found → meaningOf p (entryOf found) ≡ placedOf p found
-  means-by (Is i n) e = let r = code-read p s i n b (ap (placedOf p) e) in packed p i (r .valid) ∙ ap (Code i) (sym (r .length-is))
+  means-by : (found : Found) → foundOf s ≡ found → meaningOf p (entryOf s found) ≡ placedOf p s found
+  means-by (Is i n) e = let r = code-read p s i n b (ap (placedOf p s) e) in packed p i (r .valid) ∙ ap (Code i) (sym (r .length-is))
   means-by Cut e = cut-means p
-  means-by Unlisted e = unknown-means p
+  means-by Unlisted e = unheld-means p _ (small-group s)
 
-  small-by : (found : Found) → foundOf s ≡ found → entryOf found < 17592186044416
-  small-by (Is i n) e = small i (code-read p s i n b (ap (placedOf p) e) .valid)
+  small-by : (found : Found) → foundOf s ≡ found → entryOf s found < 17592186044416
+  small-by (Is i n) e = small i (code-read p s i n b (ap (placedOf p s) e) .valid)
   small-by Cut e = omega arith
-  small-by Unlisted e = omega arith
+  small-by Unlisted e = unheld-small _ (small-group s)
 
-  pub entry-means : (meaningOf p (entryOf (foundOf s)) ≡ decodeOf p s) × (entryOf (foundOf s) < 17592186044416)
+  pub entry-means : (meaningOf p (entryOf s (foundOf s)) ≡ decodeOf p s) × (entryOf s (foundOf s) < 17592186044416)
   entry-means = (means-by (foundOf s) refl, small-by (foundOf s) refl)
 
 -- ---- the lines

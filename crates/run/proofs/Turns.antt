@@ -35,8 +35,28 @@ module _ (p k v x : ℕ) where
       → (k ≡ 10 → ⊥) → (k ≡ 11 → ⊥) → (k ≡ 12 → ⊥) → (k ≡ 13 → ⊥) → (k ≡ 14 → ⊥) → (k ≡ 15 → ⊥) → (k ≡ 16 → ⊥) → (k ≡ 17 → ⊥) → (k ≡ 18 → ⊥) → (k ≡ 19 → ⊥) → byKind p k v x ≡ NoCode (UnknownCode p)
   unfolding byKind
   no-kind n0 n1 n2 n3 n4 n5 n6 n7 n8 n9 n10 n11 n12 n13 n14 n15 n16 n17 n18 n19 =
-      rw (ne-eqb k 0 n0, ne-eqb k 1 n1, ne-eqb k 2 n2, ne-eqb k 3 n3, ne-eqb k 4 n4, ne-eqb k 5 n5, ne-eqb k 6 n6, ne-eqb k 7 n7, ne-eqb k 8 n8, ne-eqb k 9 n9,
-      ne-eqb k 10 n10, ne-eqb k 11 n11, ne-eqb k 12 n12, ne-eqb k 13 n13, ne-eqb k 14 n14, ne-eqb k 15 n15, ne-eqb k 16 n16, ne-eqb k 17 n17, ne-eqb k 18 n18, ne-eqb k 19 n19)
+      rw (
+        ne-eqb k 0 n0,
+        ne-eqb k 1 n1,
+        ne-eqb k 2 n2,
+        ne-eqb k 3 n3,
+        ne-eqb k 4 n4,
+        ne-eqb k 5 n5,
+        ne-eqb k 6 n6,
+        ne-eqb k 7 n7,
+        ne-eqb k 8 n8,
+        ne-eqb k 9 n9,
+        ne-eqb k 10 n10,
+        ne-eqb k 11 n11,
+        ne-eqb k 12 n12,
+        ne-eqb k 13 n13,
+        ne-eqb k 14 n14,
+        ne-eqb k 15 n15,
+        ne-eqb k 16 n16,
+        ne-eqb k 17 n17,
+        ne-eqb k 18 n18,
+        ne-eqb k 19 n19,
+      )
 
 -- ---- the entry at PC
 

@@ -6,12 +6,13 @@ use lib.ListN.{getD, drop}
 use Rattle.decoder.specs.MirrorDecode.{decodeOf}
 use Rattle.decoder.specs.declared.whole.Found.{Found}
 use Rattle.decoder.specs.declared.whole.Found.the-variants.{Is, Cut, Unlisted}
-use Rattle.entry.specs.Entry.{meaningOf, packOf, unknownEntry, cutEntry}
+use Rattle.entry.specs.Entry.{meaningOf, packOf, unheldEntry, cutEntry}
+use Rattle.left.specs.Left.{groupIn, leftOut}
 
-abbrev pub entryOf : Found → ℕ
-entryOf (Is i n) = packOf i
-entryOf Cut = cutEntry
-entryOf Unlisted = unknownEntry
+abbrev pub entryOf : List ℕ → Found → ℕ
+entryOf s (Is i n) = packOf i
+entryOf s Cut = cutEntry
+entryOf s Unlisted = unheldEntry (groupIn leftOut s)
 
 -- an entry stands for what the decoder finds at the place
 abbrev pub Means : List ℕ → ℕ → ℕ → Type 0

@@ -8,13 +8,13 @@ ghost use Rattle.run.specs.MirrorKept.{entryOf, Means, Keeps};
 // An entry is below 2^44, a tag below 2^16.
 const TAG: u64 = 17592186044416;
 
-fn entry_of(found: Found) -> u64
-    ensures { λ e. ⌜ e ≡ entryOf found ⌝ }
+fn entry_of(found: Found, bytes: &[u8]) -> u64
+    ensures { λ e. ⌜ e ≡ entryOf (now (bytes .entry)) found ⌝ }
 {
     match found {
         Found::Is(i, _) => entry::pack(i),
         Found::Cut => entry::CUT,
-        Found::Unlisted => entry::UNKNOWN,
+        Found::Unlisted => entry::unheld(left::group(bytes)),
     }
 }
 
@@ -23,7 +23,8 @@ fn entry_at(rom: &[u8], at: usize) -> u64
     requires { ⌜ at < length (now rom) ⌝ }
     ensures { λ e. ⌜ Means (now (rom .entry)) at e × (e < 17592186044416) ⌝ }
 {
-    entry_of(decoder::whole::begins(&rom[at..]))
+    let s = &rom[at..];
+    entry_of(decoder::whole::begins(s), s)
 }
 
 fn line(lines: &[u64], i: usize) -> u64

@@ -31,7 +31,7 @@ fn returned(er: &mut [u32; 8], f: Condition, b: Board, rom: &[u8], ram: &[u8]) -
     }
 }
 
-// Kind 9: what has few operands, RTS, and the two refusals at a place that has no code.
+// Kind 9: what has few operands, RTS, and the refusals at a place that has no code.
 pub fn single(
     k: u8,
     x: u64,
@@ -62,7 +62,7 @@ pub fn single(
         11 => turns::ended(operate::daa(er, d, pc, f), next, 2),
         12 => turns::ended(operate::das(er, d, pc, f), next, 2),
         13 => returned(er, f, b, rom, ram),
-        14 => turns::refuse(f, Refusal::UnknownCode(pc)),
+        14 => turns::refuse(f, left::refusal(pc, (x % 256) as u8)),
         _ => turns::refuse(f, Refusal::CutShort(pc)),
     }
 }

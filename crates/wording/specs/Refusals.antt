@@ -1,9 +1,11 @@
 -- Refusals in words: document 01's table, "Refusal numbers", with what stands at the place.
-use Prim.Native.Nat.{ℕ}
+use Prim.Native.Nat.{ℕ, _/_, _%_, _^_}
+use mathlib.Core.Bool.{cond}
 use mathlib.Core.List.{List, _++_}
+use lib.Dec.{eqb}
 use lib.ListN.{length}
 use Rattle.refusal.specs.declared.Refusal.{Refusal}
-use Rattle.refusal.specs.declared.Refusal.the-variants.{BadBoard, FetchOutside, UnknownCode, CutShort, ReadOutside, WriteOutside, NoAdjustRow, BadEntry, NotFollowed, NotUpward, NotInstruction, BudgetTooLarge, LentTooShort, DivideFails}
+use Rattle.refusal.specs.declared.Refusal.the-variants.{BadBoard, FetchOutside, UnknownCode, CutShort, ReadOutside, WriteOutside, NoAdjustRow, BadEntry, NotFollowed, NotUpward, NotInstruction, BudgetTooLarge, LentTooShort, DivideFails, LeftOut}
 use Rattle.paths.specs.declared.Flow.{Flow}
 use Rattle.paths.specs.declared.Flow.the-variants.{Next, Jump, Either, Ends, Stop}
 use Rattle.listing.specs.Listing.{flowAt}
@@ -55,6 +57,17 @@ upwardText p to = ascii "10" ++ (atPlace p ++ (ascii "a branch goes back to " ++
 abbrev pub shortText : ℕ → List ℕ
 shortText n = ascii "13: what was lent is too short; it needs " ++ (decimalOf n ++ ascii " elements")
 
+-- document 01's groups of instructions that are left out
+unfoldable pub groupName : ℕ → List ℕ
+groupName g =
+    cond (eqb g 3) (ascii "MOV with displacement d:24")
+    (cond (eqb g 4) (ascii "LDC and STC with memory")
+    (cond (eqb g 5) (ascii "EEPMOV")
+    (cond (eqb g 6) (ascii "TRAPA, RTE and SLEEP") (ascii "MOVFPE and MOVTPE"))))
+
+abbrev pub leftOutText : ℕ → ℕ → List ℕ
+leftOutText p g = ascii "15" ++ (atPlace p ++ (groupName g ++ (ascii ", group " ++ (decimalOf g ++ ascii ", which this set leaves out"))))
+
 abbrev pub refusalText : List ℕ → Refusal → List ℕ
 refusalText rom BadBoard = ascii "1: the board is wrong, or PC is odd or at least 0x1000000"
 refusalText rom (FetchOutside p) = outsideText (length rom) p
@@ -70,3 +83,4 @@ refusalText rom NotInstruction = ascii "11: not an instruction: a field is out o
 refusalText rom BudgetTooLarge = ascii "12: the budget is over 1000000 steps"
 refusalText rom (LentTooShort n) = shortText n
 refusalText rom (DivideFails p) = divideText rom p
+refusalText rom (LeftOut x) = leftOutText (x % 2 ^ 24) (x / 2 ^ 24)

@@ -3,8 +3,8 @@ ghost use mathlib.Core.Path.{_≡_};
 ghost use lib.ListN.{length};
 ghost use Rattle.listing.specs.Listing.{flowAt};
 ghost use Rattle.text.specs.Lines.{Adds};
-ghost use Rattle.wording.specs.Standing.{byteText, bytesAt, noCodeText, foundText, standsAt};
-ghost use Rattle.wording.specs.Refusals.{atPlace, outsideText, unknownText, cutText, readText, writeText, adjustText, divideText, entryText, followText, backOf, upwardText, shortText, refusalText};
+ghost use Rattle.wording.specs.Standing.{byteText, bytesAt, notHeldText, noCodeText, foundText, standsAt};
+ghost use Rattle.wording.specs.Refusals.{atPlace, outsideText, unknownText, cutText, readText, writeText, adjustText, divideText, entryText, followText, backOf, upwardText, shortText, groupName, leftOutText, refusalText};
 use codes::Decoded;
 use paths::Flow;
 use refusal::Refusal;
@@ -43,13 +43,24 @@ pub fn bytes(l: Line, rom: &[u8], p: u32, n: u8) -> Line
     q
 }
 
+fn not_held(l: Line, g: u32) -> Line
+    ensures { λ r. ⌜ Adds l (notHeldText g) r ⌝ }
+{
+    if g == 0 {
+        text::bytes(l, b"unknown")
+    } else {
+        let a = text::bytes(l, b"left out, group ");
+        text::decimal(a, g as u64)
+    }
+}
+
 fn no_code(l: Line, f: Refusal) -> Line
     ensures { λ r. ⌜ Adds l (noCodeText f) r ⌝ }
 {
     if f.number() == 4 {
         text::bytes(l, b"cut short")
     } else {
-        text::bytes(l, b"unknown")
+        not_held(l, f.group())
     }
 }
 
@@ -66,7 +77,7 @@ pub fn found(l: Line, p: u32, d: Decoded) -> Line
     }
 }
 
-// What stands at the place p: an instruction, an unknown code, or one that the end cuts short.
+// What stands at the place p: an instruction, an unknown code, one that is left out, or one that the end cuts short.
 pub fn stands(l: Line, rom: &[u8], p: u32) -> Line
     ensures { λ r. ⌜ Adds l (standsAt (now (rom .entry)) p) r ⌝ }
 {
@@ -215,6 +226,29 @@ fn short(l: Line, n: u32) -> Line
     text::bytes(b, b" elements")
 }
 
+fn group_name(l: Line, g: u32) -> Line
+    ensures { λ r. ⌜ Adds l (groupName g) r ⌝ }
+{
+    match g {
+        3 => text::bytes(l, b"MOV with displacement d:24"),
+        4 => text::bytes(l, b"LDC and STC with memory"),
+        5 => text::bytes(l, b"EEPMOV"),
+        6 => text::bytes(l, b"TRAPA, RTE and SLEEP"),
+        _ => text::bytes(l, b"MOVFPE and MOVTPE"),
+    }
+}
+
+fn left_out(l: Line, p: u32, g: u32) -> Line
+    ensures { λ r. ⌜ Adds l (leftOutText p g) r ⌝ }
+{
+    let a = text::bytes(l, b"15");
+    let b = at_place(a, p);
+    let c = group_name(b, g);
+    let d = text::bytes(c, b", group ");
+    let e = text::decimal(d, g as u64);
+    text::bytes(e, b", which this set leaves out")
+}
+
 // A refusal: its number, its place, what stands there and what that means.
 pub fn refusal(l: Line, rom: &[u8], f: Refusal) -> Line
     ensures { λ r. ⌜ Adds l (refusalText (now (rom .entry)) f) r ⌝ }
@@ -240,5 +274,6 @@ pub fn refusal(l: Line, rom: &[u8], f: Refusal) -> Line
         Refusal::BudgetTooLarge => text::bytes(l, b"12: the budget is over 1000000 steps"),
         Refusal::LentTooShort(n) => short(l, n),
         Refusal::DivideFails(p) => divide(l, rom, p),
+        Refusal::LeftOut(x) => left_out(l, x % 16777216, x / 16777216),
     }
 }

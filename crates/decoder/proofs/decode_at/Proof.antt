@@ -16,7 +16,7 @@ decode-at-spec =
     (λ c.
     let a = c .before .before .before .args in
     let s = now (a .bytes) in
-    let e = c .placed .ensures ∙ ap (placedOf (a .place)) (c .before .begins .ensures) in (
+    let e = c .placed .ensures ∙ ap (placedOf (a .place) s) (c .before .begins .ensures) in (
       subst (λ r. Decodes (a .place) s r) (sym e) (exact (a .place) s (bytes-of s (λ k. omega (
         arith,
         c .before .before .shared-slice-known .given k,

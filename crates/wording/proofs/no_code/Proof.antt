@@ -8,7 +8,6 @@ pub no-code-spec : {M : Type 1} → statement M
 unfolding noCodeText
 no-code-spec =
     tie.close
-    (tie.spec (λ c κs. search needs) (λ c. search needs) (λ c κs. search needs) (λ c. search needs)
-    (λ c κs. search needs)
+    (tie.spec (λ c κs. search needs) (λ c. search needs) (λ c κs. search needs) (λ c κs. search needs) (λ c κs. search needs)
     (λ c. rw (← (c .before .before .before .number .ensures), eq-eqb _ _ (c .before .before .if1 .taken)) (c .bytes .ensures))
-    (λ c. rw (← (c .before .before .before .number .ensures), ne-eqb _ _ (c .before .before .if1 .left)) (c .bytes2 .ensures)))
+    (λ c. rw (← (c .before .before .before .number .ensures), ne-eqb _ _ (c .before .before .if1 .left), ← (c .before .group .ensures)) (c .not-held .ensures)))

@@ -1,10 +1,12 @@
+use Rattle.layout.specs.Lent.{overwrite}
+use Rattle.host.specs.Answers.{tell}
 use Rattle.host.specs.Figures.{wayTold}
 use borrow.Author.Needs.{needs}
 use Rattle.host.proofs.figures.tell_way.Statement.{statement}
 use Rattle.host.proofs.figures.tell_way.Tie as tie
 
 pub tell-way-spec : {M : Type 1} → statement M
-unfolding wayTold
+unfolding wayTold tell overwrite
 tell-way-spec =
     tie.close
     (tie.spec (λ c. search needs) (λ c. search needs) (λ c κs. search needs) (λ c. search needs)

@@ -10,7 +10,7 @@ pub h8-run-spec : {M : Type 1} → statement M
 unfolding runCall
 h8-run-spec =
     tie.close
-    (tie.spec (λ c. rw (lt-ltb _ _ (c .if1 .taken))) (λ c κs. search needs) (λ c. search needs)
+    (tie.spec (λ c. rw (lt-ltb _ _ (c .if1 .taken))) (λ c. search needs) (λ c κs. search needs) (λ c. search needs)
     (λ c. rw (le-ltb _ _ (c .before .before .before .before .before .if1 .left), lt-ltb _ _ (c .before .before .before .before .if2 .taken)) (leave (c .before .before .tell-ending .ensures) refl refl))
     (λ c κs. search needs) (λ c. search needs)
     (λ c. rw (le-ltb _ _ (c .before .before .before .before .before .before .if1 .left), le-ltb _ _ (c .before .before .before .before .before .if2 .left), lt-ltb _ _ (c .before .before .before .before .if3 .taken)) (leave (c .before .before .tell-ending2 .ensures) refl refl))

@@ -9,9 +9,10 @@ unfolding runAnswer
 tell-ending-spec =
     tie.close
     (tie.spec (λ c. search needs) (λ c κs. search needs) (λ c. search needs) (λ c κs. search needs)
-    (λ c. search needs) (λ c κs. search needs) (λ c κs. search needs) (λ c κs. search needs) (λ c. search needs)
-    (λ c. rw (c .before .before .before .before .enum-told .given .1) (c .before .before .told-five .ensures))
+    (λ c. search needs) (λ c κs. search needs) (λ c κs. search needs) (λ c κs. search needs) (λ c κs. search needs)
     (λ c. search needs)
-    (λ c. rw (c .before .before .before .before .enum-told2 .given .1) (c .before .before .told-five2 .ensures))
+    (λ c. rw (c .before .before .before .before .enum-told .given .1) (c .before .before .told-six .ensures))
     (λ c. search needs)
-    (λ c. rw (c .before .before .before .before .before .before .before .why .given .1) (c .before .before .told-five3 .ensures ∙ rw (c .before .before .before .place .ensures, c .before .before .before .before .number .ensures))))
+    (λ c. rw (c .before .before .before .before .enum-told2 .given .1) (c .before .before .told-six2 .ensures))
+    (λ c. search needs)
+    (λ c. rw (c .before .before .before .before .before .before .before .before .why .given .1) (c .before .before .told-six3 .ensures ∙ rw (c .before .before .before .group .ensures, c .before .before .before .before .place .ensures, c .before .before .before .before .before .number .ensures))))

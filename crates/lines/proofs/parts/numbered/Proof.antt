@@ -7,5 +7,5 @@ pub numbered-spec : {M : Type 1} → statement M
 numbered-spec =
     tie.close
     (tie.spec (λ c κs. search needs) (λ c κs. search needs) (λ c. search needs) (λ c. search needs)
-    (λ c κs. search needs) (λ c. search needs) (λ c κs. search needs) (λ c. search needs) (λ c κs. search needs)
-    (λ c. rw (← (c .before .before .before .before .before .before .before .number .ensures), ← (c .before .before .before .before .before .before .place .ensures)) (more (c .before .before .before .before .number2 .ensures) (more (c .before .before .place2 .ensures) (c .bytes .ensures)))))
+    (λ c κs. search needs) (λ c. search needs) (λ c κs. search needs) (λ c κs. search needs) (λ c κs. search needs) (λ c. search needs) (λ c κs. search needs)
+    (λ c. rw (← (c .before .before .before .before .before .before .before .before .before .number .ensures), ← (c .before .before .before .before .before .before .before .before .place .ensures), ← (c .before .before .before .group .ensures)) (more (c .before .before .before .before .before .before .number2 .ensures) (more (c .before .before .before .before .place2 .ensures) (more (c .before .before .grouped .ensures) (c .bytes .ensures))))))

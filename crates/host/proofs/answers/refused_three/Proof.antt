@@ -1,0 +1,8 @@
+use borrow.Author.Needs.{needs}
+use Rattle.host.proofs.answers.refused_three.Statement.{statement}
+use Rattle.host.proofs.answers.refused_three.Tie as tie
+
+pub refused-three-spec : {M : Type 1} → statement M
+refused-three-spec =
+    tie.close
+    (tie.spec (λ c κs. search needs) (λ c κs. search needs) (λ c κs. search needs) (λ c κs. search needs) (λ c. search needs) (λ c. cc))

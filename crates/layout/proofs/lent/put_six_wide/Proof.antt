@@ -1,0 +1,8 @@
+use borrow.Author.Needs.{needs}
+use Rattle.layout.proofs.lent.put_six_wide.Statement.{statement}
+use Rattle.layout.proofs.lent.put_six_wide.Tie as tie
+
+pub put-six-wide-spec : {M : Type 1} → statement M
+put-six-wide-spec =
+    tie.close
+    (tie.spec (λ c κs. search needs) (λ c κs. search needs) (λ c κs. search needs) (λ c. search needs) (λ c. cc))
