@@ -93,7 +93,7 @@ fn gap(q: Request) -> Got {
 }
 
 fn figure_of(plain: bool, rom: &[u8], table: &mut [u64], entry: u32, gap: Gap) {
-    let v = figure::figure(rom, entry, table);
+    let v = figure::figure(site::no_ports(), rom, entry, table);
     show::write(lines::figure(text::blank(), rom, v, entry, gap, plain));
 }
 
@@ -116,7 +116,7 @@ fn figure(q: Request, rom: &[u8], table: &mut [u64]) {
 }
 
 fn way_of(plain: bool, rom: &[u8], table: &mut [u64], entry: u32) {
-    match figure::figure(rom, entry, table) {
+    match figure::figure(site::no_ports(), rom, entry, table) {
         Verdict::Longest(n) => places::way(rom, &table[..], entry, n, plain),
         Verdict::Forbids(f) => show::write(lines::refused(text::blank(), rom, f, plain)),
     }
@@ -137,7 +137,7 @@ fn word_or(q: Request, name: &[u8], i: usize, otherwise: u64) -> Got {
 }
 
 fn list_of(plain: bool, rom: &[u8], table: &mut [u64], from: usize, to: usize) {
-    figure::figure(rom, 0, table);
+    figure::figure(site::no_ports(), rom, 0, table);
     places::list(rom, &table[..], from, to, plain);
 }
 

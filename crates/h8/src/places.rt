@@ -21,7 +21,7 @@ fn follow(rom: &[u8], table: &[u64], entry: u32, plain: bool) {
     while 0 < turns {
         total = lines::total(rom, p, total);
         show::write(lines::on_way(rom, p, total, plain));
-        p = next(figure::way(rom, table, p));
+        p = next(figure::way(site::no_ports(), rom, table, p));
         if p == NONE {
             return;
         }

@@ -3,11 +3,10 @@ use crate::ask::Request;
 use crate::asked;
 use crate::show;
 use lines::Given;
-use memory::Board;
 use registers::Registers;
 
 fn go(rom: &[u8], ram: &mut [u8], g: Given, r: Registers, plain: bool) {
-    let a = run::run(Board { base: g.base }, rom, ram, r, g.stop, g.budget);
+    let a = run::run(memory::plain(g.base), rom, ram, r, g.stop, g.budget);
     show::write(lines::ran(text::blank(), rom, g, a, plain));
     show::write(lines::registers(text::blank(), a, plain));
 }

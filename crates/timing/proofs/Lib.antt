@@ -1,0 +1,4 @@
+pub mod Laws
+pub mod Few
+pub mod Printed
+mod Samples
