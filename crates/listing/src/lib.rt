@@ -1,9 +1,7 @@
 // Where paths go from each place of read-only memory: document 01, "The routine's figure".
 use arith::Width;
 use codes::Instruction;
-use codes::Place;
 use codes::Reach;
-use codes::Spot;
 use codes::Target;
 use decoder::whole::Found;
 use paths::Flow;
@@ -11,13 +9,12 @@ use refusal::Refusal;
 use site::Site;
 ghost use mathlib.Core.Path.{_≡_};
 ghost use Prim.Native.Nat.{_+_, _*_, _<_};
-ghost use Rattle.codes.specs.Cycles.{spotFetches};
 ghost use Rattle.codes.specs.declared.Decoded.the-variants.{Code};
 ghost use Rattle.codes.specs.declared.Instruction.the-variants.{Rts};
 ghost use Rattle.paths.specs.declared.Flow.the-variants.{Next, Ends};
-ghost use Rattle.timing.specs.Made.{mostAt, mostOf};
+ghost use Rattle.timing.specs.Made.{mostOf};
 ghost use Rattle.decoder.specs.MirrorWords.{row0, row1, row6, planOf};
-ghost use Rattle.listing.specs.MirrorGlance.{Told, placeBase, moveBase, spotMost};
+ghost use Rattle.listing.specs.MirrorGlance.{Told};
 ghost use Rattle.listing.specs.Listing.{branchFlow, jumpFlow, foundFlow, flowAt};
 
 fn branch(c: u8, next: u32, to: u32, s: u64) -> Flow
@@ -48,80 +45,11 @@ fn onward(next: u32, s: u32) -> Flow
     Flow::Next(next, s as u64)
 }
 
-// RTS reads where ER7 points.
 fn returns(k: Site) -> Flow
     ensures { λ r. ⌜ r ≡ Ends (mostOf k Rts) ⌝ }
 {
-    let s = 6 + timing::dearest(k, Width::Long);
+    let s = timing::parts::rts(k);
     Flow::Ends(s as u64)
-}
-
-// The states of MOV without its access: two for a word of code, and two where it steps a register. Here and below the bound is for callers, so that
-// their sums fit.
-fn place_base(p: Place) -> u32
-    ensures { λ s. ⌜ (s ≡ placeBase p) × (s < 7) ⌝ }
-{
-    match p {
-        Place::At(_) => 2,
-        Place::Step(_) => 4,
-        Place::Disp(_, _) => 4,
-        Place::Abs8(_) => 2,
-        Place::Abs16(_) => 4,
-        Place::Abs24(_) => 6,
-    }
-}
-
-fn move_base(w: Width, p: Place) -> u32
-    ensures { λ s. ⌜ (s ≡ moveBase w p) × (s < 9) ⌝ }
-{
-    match w {
-        Width::Byte => place_base(p),
-        Width::Word => place_base(p),
-        Width::Long => 2 + place_base(p),
-    }
-}
-
-fn moved(k: Site, w: Width, p: Place) -> u32
-    ensures { λ s. ⌜ s ≡ moveBase w p + mostAt k w p ⌝ }
-{
-    let s = move_base(w, p);
-    s + timing::most(k, w, p)
-}
-
-// An access to the byte of a bit: none to a register.
-fn at_spot(k: Site, spot: Spot) -> u32
-    ensures { λ s. ⌜ (s ≡ spotMost k spot) × (s < 13) ⌝ }
-{
-    match spot {
-        Spot::InPart(_) => 0,
-        Spot::AtEr(e) => timing::most(k, Width::Byte, Place::At(e)),
-        Spot::AtAbs(a) => timing::most(k, Width::Byte, Place::Abs8(a)),
-    }
-}
-
-fn spot_base(spot: Spot) -> u32
-    ensures { λ s. ⌜ (s ≡ 2 * spotFetches spot) × (s < 5) ⌝ }
-{
-    match spot {
-        Spot::InPart(_) => 2,
-        Spot::AtEr(_) => 4,
-        Spot::AtAbs(_) => 4,
-    }
-}
-
-fn read_bit(k: Site, spot: Spot) -> u32
-    ensures { λ s. ⌜ s ≡ 2 * spotFetches spot + spotMost k spot ⌝ }
-{
-    let s = spot_base(spot);
-    s + at_spot(k, spot)
-}
-
-fn written_bit(k: Site, spot: Spot) -> u32
-    ensures { λ s. ⌜ s ≡ 2 * spotFetches spot + spotMost k spot + spotMost k spot ⌝ }
-{
-    let s = spot_base(spot);
-    let once = at_spot(k, spot);
-    s + once + once
 }
 
 // An instruction of n bytes at p. Its parts are looked at here, where the decoder has left them: to hand them on whole is to copy them.
@@ -142,9 +70,9 @@ fn found(k: Site, p: u32, i: Instruction, n: usize) -> Flow
         Instruction::Unary(_, _, _) => onward(next, 2),
         Instruction::Multiply(sign, h, _, _) => onward(next, codes::product_states(sign, h)),
         Instruction::Divide(sign, h, _, _) => onward(next, codes::product_states(sign, h)),
-        Instruction::Takes(_, _, spot) => onward(next, read_bit(k, spot)),
-        Instruction::Gives(_, _, spot) => onward(next, written_bit(k, spot)),
-        Instruction::Move(_, w, place, _) => onward(next, moved(k, w, place)),
+        Instruction::Takes(_, _, spot) => onward(next, timing::parts::read_bit(k, spot)),
+        Instruction::Gives(_, _, spot) => onward(next, timing::parts::written_bit(k, spot)),
+        Instruction::Move(_, w, place, _) => onward(next, timing::parts::moved(k, w, place)),
         Instruction::Bcc(c, reach) => match reach {
             Reach::Near(d) => branch(c, next, flow::target(next, Reach::Near(d)), 4),
             Reach::Far(d) => branch(c, next, flow::target(next, Reach::Far(d)), 6),

@@ -44,7 +44,7 @@ use Rattle.flow.specs.Targets.{nextOf}
 use Rattle.decoder.specs.MirrorDecode.{decodeOf}
 use Rattle.codes.specs.States.{goesOf}
 use Rattle.step.specs.Follow.{aimOf, followOf}
-use Rattle.step.specs.Step.{transferOf, effectOf, After, after, answered, stays, finishOf, carryOf, obeyOf, actOf, fetchOf, goodPc, stepOf}
+use Rattle.step.specs.Step.{transferOf, effectOf, After, after, answered, stays, finishOf, carryOf, obeyOf, actOf, fetchOf, goodPc, goodStart, stepOf}
 use Rattle.step.proofs.Range.{whole-stc, whole-ldc, whole-ccr, whole-alu, whole-inc-dec, whole-carried, whole-adds-subs, whole-added, whole-shift, whole-unary, whole-put, whole-multiply, whole-over, whole-took}
 use Rattle.arith.specs.declared.Width.{Width}
 use Rattle.arith.specs.declared.Width.the-variants.{Byte, Word, Long}
@@ -230,7 +230,7 @@ module _ (r : Registers) (b : Board) (rom ram : List ℕ) where
         length-stays = k;
       }
 
-  stepped-by : (t : Bool) → goodBoard b (length rom) (length ram) && goodPc (r .pc) ≡ t → (f : Refusal) → stepOf b rom ram r .answer .outcome ≡ Refused f
+  stepped-by : (t : Bool) → goodStart b rom ram r ≡ t → (f : Refusal) → stepOf b rom ram r .answer .outcome ≡ Refused f
       → stepOf b rom ram r ≡ after (stays r f) ram
   unfolding stepOf
   stepped-by true t f e = rw t (refused-stays _ (comes r b rom ram) f (rw t at e))
@@ -257,7 +257,7 @@ module _ (r : Registers) (b : Board) (rom ram : List ℕ) where
   few a (by-data i n f l d k) = omega arith
   few a (completes i n p q m l d g e k h) = omega (arith, never-more (b .site) r i, most-few (b .site) i)
 
-  few-on : (t : Bool) → goodBoard b (length rom) (length ram) && goodPc (r .pc) ≡ t → stepOf b rom ram r .answer .states ≤ 32
+  few-on : (t : Bool) → goodStart b rom ram r ≡ t → stepOf b rom ram r .answer .states ≤ 32
   unfolding stepOf
   few-on true e = rw e (few _ (comes r b rom ram))
   few-on false e = rw e (omega arith)

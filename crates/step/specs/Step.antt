@@ -109,6 +109,10 @@ fetchOf r b rom ram =
 abbrev pub goodPc : ℕ → Bool
 goodPc pc = eqb (pc % 2) 0 && ltb pc (2 ^ 24)
 
+-- a right board, and a PC that can be: else refusal 1
+abbrev pub goodStart : Board → List ℕ → List ℕ → Registers → Bool
+goodStart b rom ram r = goodBoard b (length rom) (length ram) && goodPc (r .pc)
+
 unfoldable pub stepOf : Board → List ℕ → List ℕ → Registers → After
 stepOf b rom ram r =
-    cond (goodBoard b (length rom) (length ram) && goodPc (r .pc)) (fetchOf r b rom ram) (after (stays r BadBoard) ram)
+    cond (goodStart b rom ram r) (fetchOf r b rom ram) (after (stays r BadBoard) ram)

@@ -1,4 +1,3 @@
-use Rattle.listing.proofs.Counted.{return}
 use borrow.Author.Needs.{needs}
 use Rattle.listing.proofs.returns.Statement.{statement}
 use Rattle.listing.proofs.returns.Tie as tie
@@ -6,5 +5,5 @@ use Rattle.listing.proofs.returns.Tie as tie
 pub returns-spec : {M : Type 1} → statement M
 returns-spec =
     tie.close
-    (tie.spec (λ c κs. search needs) (λ c. search needs) (λ c. search needs)
-    (λ c. rw (return (c .before .args .k), c .dearest .ensures .0)))
+    (tie.spec (λ c κs. search needs) (λ c. search needs)
+    (λ c. rw (c .rts .ensures)))
