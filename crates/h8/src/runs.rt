@@ -3,10 +3,16 @@ use crate::ask::Request;
 use crate::asked;
 use crate::show;
 use lines::Given;
+use memory::Board;
 use registers::Registers;
+use site::Site;
 
 fn go(rom: &[u8], ram: &mut [u8], g: Given, r: Registers, plain: bool) {
-    let a = run::run(memory::plain(g.base), rom, ram, r, g.stop, g.budget);
+    let b = Board {
+        base: g.base,
+        site: Site { area: g.area },
+    };
+    let a = run::run(b, rom, ram, r, g.stop, g.budget);
     show::write(lines::ran(text::blank(), rom, g, a, plain));
     show::write(lines::registers(text::blank(), a, plain));
 }
@@ -26,9 +32,20 @@ fn begun(q: Request, rom: &[u8], ram: &mut [u8], g: Given) {
     }
 }
 
+// The ports; the registers are left.
+fn with_ports(q: Request, rom: &[u8], ram: &mut [u8], g: Given) {
+    let p = asked::ports(q, g.base);
+    let mut h = g;
+    h.area = p.area;
+    h.code = rom.len() as u32;
+    if !p.bad {
+        begun(q, rom, ram, h);
+    }
+}
+
 pub fn show_run(q: Request, rom: &[u8], ram: &mut [u8]) {
     let w = asked::numbers(q);
     if !w.bad {
-        begun(q, rom, ram, w.given);
+        with_ports(q, rom, ram, w.given);
     }
 }
