@@ -28,8 +28,9 @@ use Rattle.timing.specs.Made.{baseOf, mostAt, mostOf}
 use Rattle.flow.specs.Targets.{nextOf, targetOf}
 use Rattle.paths.specs.declared.Flow.the-variants.{Next}
 use Rattle.listing.specs.Listing.{branchFlow, goesFlow, foundFlow, decodedAt, flowAt}
-use Rattle.listing.specs.MirrorGlance.{Tells, moveBase}
-use Rattle.listing.proofs.Counted.{move}
+use Rattle.timing.specs.MirrorParts.{moveBase}
+use Rattle.listing.specs.MirrorGlance.{Tells}
+use Rattle.timing.proofs.Counts.{move}
 
 -- a load and a store tell the same
 either-way : (k : Site) (s b : ℕ) (plan : Dir → ℕ → Plan) → Tells k s (plan Load (b / 16)) → Tells k s (plan Store (b / 16 - 8))
