@@ -18,7 +18,7 @@ pub struct Wanted {
     pub bad: bool,
 }
 
-pub struct Ports {
+pub struct PortArea {
     pub area: Area,
     pub bad: bool,
 }
@@ -73,15 +73,15 @@ fn none_at(p: u32) -> Area {
     }
 }
 
-fn no_ports() -> Ports {
-    Ports {
+fn no_ports() -> PortArea {
+    PortArea {
         area: none_at(0),
         bad: true,
     }
 }
 
-fn ports_of(base: u64, end: u64, bus: u64) -> Ports {
-    Ports {
+fn ports_of(base: u64, end: u64, bus: u64) -> PortArea {
+    PortArea {
         area: Area {
             base: small(base),
             end: small(end),
@@ -104,9 +104,9 @@ fn bits(plain: bool, i: usize) -> Got {
 }
 
 // The ports that --port names; without it an empty area at `otherwise`.
-pub fn ports(q: Request, otherwise: u32) -> Ports {
+pub fn ports(q: Request, otherwise: u32) -> PortArea {
     if q.port == 0 {
-        return Ports {
+        return PortArea {
             area: none_at(otherwise),
             bad: false,
         };

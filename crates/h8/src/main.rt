@@ -97,7 +97,8 @@ fn gap(q: Request) -> Got {
 // A refusal; 1 can lie only in the ports, since the ROM's length was looked at.
 fn refused(plain: bool, k: Site, rom: &[u8], f: Refusal) {
     if f.number() == 1 {
-        show::write(lines::ports_wrong(text::blank(), rom, k.area, plain));
+        let area = k.area;
+        show::write(lines::ports_wrong(text::blank(), rom, area, plain));
     } else {
         show::write(lines::refused(text::blank(), rom, f, plain));
     }
@@ -152,7 +153,8 @@ fn word_or(q: Request, name: &[u8], i: usize, otherwise: u64) -> Got {
 
 fn listed(plain: bool, k: Site, rom: &[u8], table: &[u64], from: usize, to: usize, n: u32) {
     if n == 1 {
-        show::write(lines::ports_wrong(text::blank(), rom, k.area, plain));
+        let area = k.area;
+        show::write(lines::ports_wrong(text::blank(), rom, area, plain));
     } else {
         places::list(k, rom, table, from, to, plain);
     }
@@ -219,7 +221,8 @@ fn answer(q: Request, u: Use, k: Site, rom: &[u8], table: &mut [u64]) {
 fn with_ports(q: Request, u: Use, rom: &[u8], table: &mut [u64]) {
     let p = asked::ports(q, 16777216);
     if !p.bad {
-        answer(q, u, Site { area: p.area }, rom, table);
+        let area = p.area;
+        answer(q, u, Site { area }, rom, table);
     }
 }
 

@@ -8,10 +8,9 @@ use registers::Registers;
 use site::Site;
 
 fn go(rom: &[u8], ram: &mut [u8], g: Given, r: Registers, plain: bool) {
-    let b = Board {
-        base: g.base,
-        site: Site { area: g.area },
-    };
+    let area = g.area;
+    let site = Site { area };
+    let b = Board { base: g.base, site };
     let a = run::run(b, rom, ram, r, g.stop, g.budget);
     show::write(lines::ran(text::blank(), rom, g, a, plain));
     show::write(lines::registers(text::blank(), a, plain));
@@ -35,11 +34,23 @@ fn begun(q: Request, rom: &[u8], ram: &mut [u8], g: Given) {
 // The ports; the registers are left.
 fn with_ports(q: Request, rom: &[u8], ram: &mut [u8], g: Given) {
     let p = asked::ports(q, g.base);
-    let mut h = g;
-    h.area = p.area;
-    h.code = rom.len() as u32;
     if !p.bad {
-        begun(q, rom, ram, h);
+        let area = p.area;
+        let code = (rom.len() % 4294967296) as u32;
+        begun(
+            q,
+            rom,
+            ram,
+            Given {
+                area,
+                code,
+                entry: g.entry,
+                base: g.base,
+                length: g.length,
+                stop: g.stop,
+                budget: g.budget,
+            },
+        );
     }
 }
 
