@@ -5,9 +5,11 @@
      ask answer QUESTIONS        each line `$ h8 USE ...` of the file, and its answer
      ask roms FOLDER N           N random ROMs into the folder; prints questions about them
      ask code FILE               a ROM with every form eight times from 0x8000 on, for a listing that is assembled again
-     ask states ROM              place, bytes and states of each instruction by the table of forms, as the manual has them */
-#include "decoder.h"
+     ask states ROM              place, bytes and states of each instruction by the table of forms, as the manual has them
+
+   The states of a place are not the library's, which tells figures alone: they are the model's, and along a way they must add up. */
 #include "file.h"
+#include "model.h"
 #include <stdio.h>
 #include <stdlib.h>
 #include <string.h>
@@ -18,6 +20,9 @@ typedef unsigned long long ull;
 static uint8_t rom[ROM_ROOM], ram[H8_RAM_MAX];
 static uint64_t table[H8_ROM_MAX];
 static size_t rom_n;
+static uint32_t board[H8_BOARD];            /* of the question */
+
+static struct area ports(void) { return (struct area){board[H8_AREA_BASE], board[H8_AREA_END], board[H8_BUS]}; }
 
 static void load(const char *path) { rom_n = read_file(path, rom, sizeof rom); }
 
@@ -56,7 +61,9 @@ static void print_bytes(uint32_t p, uint32_t n)
 /* What stands at p; answers its length and adds its states. A word that is no instruction has two bytes and no states. */
 static uint32_t print_code(uint32_t p, uint64_t *states)
 {
-    uint32_t fields[H8_FIELDS], answer[3], number = h8_decode(rom + p, rom_n - p, fields, H8_FIELDS, answer, 3);
+    uint32_t fields[H8_FIELDS], answer[3], number = h8_decode(rom + p, rom_n - p, fields, H8_FIELDS, answer, 3), most;
+    struct decoded d;
+    most = decode(rom + p, rom_n - p, &d) ? 0 : model_most(&d, ports());
     print_place("place", p);
     print_bytes(p, number ? 2 : fields[H8_LENGTH]);
     if (number == 15)
@@ -64,15 +71,15 @@ static uint32_t print_code(uint32_t p, uint64_t *states)
     else if (number)
         printf("text %s\n", number == 3 ? "unknown" : "cut short");
     else
-        printf("states %u\n", fields[H8_STATES]);
-    *states += number ? 0 : fields[H8_STATES];
+        printf("states %u\n", most);
+    *states += number ? 0 : most;
     return number ? 2 : fields[H8_LENGTH];
 }
 
 static void figure(uint32_t entry, const char *gap)
 {
     uint64_t answer[4];
-    if (h8_figure(rom, rom_n, entry, table, rom_n, answer, 4)) {
+    if (h8_figure(board, H8_BOARD, rom, rom_n, entry, table, rom_n, answer, 4)) {
         print_refusal(answer);
         return;
     }
@@ -88,7 +95,7 @@ static void figure(uint32_t entry, const char *gap)
 static void way(uint32_t entry)
 {
     uint64_t answer[4], total = 0;
-    if (h8_figure(rom, rom_n, entry, table, rom_n, answer, 4)) {
+    if (h8_figure(board, H8_BOARD, rom, rom_n, entry, table, rom_n, answer, 4)) {
         print_refusal(answer);
         return;
     }
@@ -96,7 +103,7 @@ static void way(uint32_t entry)
     for (uint64_t p = entry; p != H8_NONE; p = answer[3]) {
         print_code((uint32_t)p, &total);
         printf("total %llu\n", (ull)total);
-        if (h8_way(rom, rom_n, table, rom_n, (uint32_t)p, answer, 4)) {
+        if (h8_way(board, H8_BOARD, rom, rom_n, table, rom_n, (uint32_t)p, answer, 4)) {
             print_refusal(answer);
             return;
         }
@@ -107,7 +114,10 @@ static void way(uint32_t entry)
 static void list(uint32_t from, uint32_t to)
 {
     uint64_t answer[4], states = 0;
-    h8_figure(rom, rom_n, 0, table, rom_n, answer, 4);
+    if (h8_figure(board, H8_BOARD, rom, rom_n, 0, table, rom_n, answer, 4) == 1) {
+        print_refusal(answer);
+        return;
+    }
     for (uint32_t p = from; p < rom_n && p <= to;) {
         uint32_t n = print_code(p, &states);
         if (table[p + 1] == H8_NONE)
@@ -120,7 +130,7 @@ static void list(uint32_t from, uint32_t to)
 
 /* What a run is asked. */
 struct asked {
-    uint32_t regs[H8_REGISTERS], base, length, stop, budget;
+    uint32_t regs[H8_REGISTERS], length, stop, budget;
 };
 
 static struct asked asked(uint32_t entry, char **word, int words)
@@ -129,7 +139,7 @@ static struct asked asked(uint32_t entry, char **word, int words)
     a.regs[H8_PC] = entry;
     for (int i = 0; i + 1 < words; i++) {
         if (!strcmp(word[i], "--ram"))
-            a.base = number(word[i + 1]), a.length = number(word[i + 2]);
+            a.length = number(word[i + 2]);
         else if (!strcmp(word[i], "--stop"))
             a.stop = number(word[i + 1]);
         else if (!strcmp(word[i], "--budget"))
@@ -155,7 +165,7 @@ static void run(struct asked a)
     static const char *const ended[3] = {"stop", "budget", "refusal"};
     uint64_t answer[6];
     memset(ram, 0, sizeof ram);
-    uint32_t refusal = h8_run(a.base, rom, rom_n, ram, a.length, a.regs, H8_REGISTERS, a.stop, a.budget, answer, 6);
+    uint32_t refusal = h8_run(board, H8_BOARD, rom, rom_n, ram, a.length, a.regs, H8_REGISTERS, a.stop, a.budget, answer, 6);
     if (refusal == 1 || refusal == 12) {    /* nothing ran: the arguments are wrong */
         print_refusal(answer);
         return;
@@ -166,9 +176,37 @@ static void run(struct asked a)
     print_registers(a.regs);
 }
 
+/* The board of the question: where `--port` is left out, no ports, in working memory or at the end of all. */
+static void take_board(char **word, int words)
+{
+    board[H8_BASE] = 0;
+    board[H8_AREA_BASE] = board[H8_AREA_END] = 16777216;
+    board[H8_BUS] = 8;
+    for (int i = 0; i + 2 < words; i++)
+        if (!strcmp(word[i], "--ram"))
+            board[H8_BASE] = board[H8_AREA_BASE] = board[H8_AREA_END] = number(word[i + 1]);
+    for (int i = 0; i + 3 < words; i++)
+        if (!strcmp(word[i], "--port"))
+            board[H8_AREA_BASE] = number(word[i + 1]), board[H8_AREA_END] = number(word[i + 2]), board[H8_BUS] = number(word[i + 3]);
+}
+
+/* `--port` and its numbers are no words of figure, way and list. */
+static int without_port(char **word, int words)
+{
+    int n = 0;
+    for (int i = 0; i < words; i++)
+        if (!strcmp(word[i], "--port"))
+            i += 3;
+        else
+            word[n++] = word[i];
+    return n;
+}
+
 static void answer_words(char **word, int words)
 {
     load(word[1]);
+    take_board(word, words);
+    words = without_port(word, words);
     const char *third = words > 2 ? word[2] : "0", *fourth = words > 3 ? word[3] : NULL;
     if (!strcmp(word[0], "figure"))
         figure(number(third), fourth);
@@ -289,15 +327,25 @@ static uint32_t random_entry(void)
     return die < 7 || !rom_n ? 0 : die < 11 ? below((uint32_t)rom_n) & ~1u : below(2 * (uint32_t)rom_n);
 }
 
+/* Ports in half of the questions: in working memory of so many bytes, now and then past it. */
+static const char *some_port(uint32_t n)
+{
+    static char text[60];
+    uint32_t from = 2 * below(n / 2 + 1), to = from + 2 * below((n - from) / 2 + (below(8) ? 1 : 9));
+    snprintf(text, sizeof text, "--port 0x%x 0x%x %d ", 0xFFEF10 + from, 0xFFEF10 + to, below(2) ? 8 : 16);
+    return below(2) ? text : "";
+}
+
 static void print_questions(const char *name, int k)
 {
-    uint32_t entry = random_entry();
-    printf("$ h8 figure %s 0x%x %u --plain\n", name, entry, below(120));
-    printf("$ h8 way %s %u --plain\n", name, entry);
-    printf("$ h8 run %s %u --ram 0xffef10 %u --budget %u --er %u 0x%x --er %u 0xffef%02x --er 7 0xffef%02x --stop %u --plain\n", name,
-           entry, 2 * below(64), 1 + below(50), below(3), below(1u << 31), 3 + below(4), 0x10 + below(64), 0x10 + below(128), 2 * below(40));
+    uint32_t entry = random_entry(), length = 2 * below(64);
+    printf("$ h8 figure %s 0x%x %u %s--plain\n", name, entry, below(120), some_port(128));
+    printf("$ h8 way %s %u %s--plain\n", name, entry, some_port(128));
+    printf("$ h8 run %s %u --ram 0xffef10 %u --budget %u --er %u 0x%x --er %u 0xffef%02x --er 7 0xffef%02x --stop %u %s--plain\n", name,
+           entry, length, 1 + below(50), below(3), below(1u << 31), 3 + below(4), 0x10 + below(64), 0x10 + below(128), 2 * below(40),
+           some_port(length));
     if (k % 4 == 0 && rom_n)
-        printf("$ h8 list %s --plain\n", name);
+        printf("$ h8 list %s %s--plain\n", name, some_port(128));
 }
 
 static int roms(const char *folder, int n)
@@ -341,6 +389,7 @@ static int states(const char *path)
 int main(int argc, char **argv)
 {
     decoder_start();
+    model_start();
     if (argc == 3 && !strcmp(argv[1], "answer"))
         return answer_all(argv[2]);
     if (argc == 4 && !strcmp(argv[1], "roms"))

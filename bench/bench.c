@@ -110,7 +110,7 @@ void end(const char *unit)
 }
 
 /* Lent memory. */
-struct lender rom_lender, ram_lender, regs_lender, answer_lender, out_lender;
+struct lender rom_lender, ram_lender, regs_lender, answer_lender, out_lender, board_lender;
 enum { GUARD = 64, GUARD_BYTE = 0xA5 };
 
 void lender_make(struct lender *l, size_t room)
@@ -145,6 +145,19 @@ int guards_stand(const struct lender *l)
     return 1;
 }
 
+const uint32_t *lend_board(uint32_t base, struct area a)
+{
+    uint32_t *board = lend(&board_lender, 4 * H8_BOARD);
+    board[H8_BASE] = base;
+    board[H8_AREA_BASE] = a.base;
+    board[H8_AREA_END] = a.end;
+    board[H8_BUS] = a.bus;
+    return board;
+}
+
+const uint32_t *plain_board(uint32_t base) { return lend_board(base, no_ports(base)); }
+const uint32_t *far_board(uint32_t base, size_t ram_n) { return lend_board(base, no_ports((base + (uint32_t)ram_n) & ~1u)); }
+
 /* The library touched memory that was not lent. */
 static void touched(int signal_number)
 {
@@ -169,6 +182,16 @@ uint32_t edge32(void)
     if (k < 6)
         return edges[below(n)];
     return edges[below(n)] << 16 | (edges[below(n)] & 0xFFFF);
+}
+
+struct area some_area(uint32_t base, uint32_t ram_n)
+{
+    uint32_t from = 2 * below(ram_n / 2 + 1), to = from + 2 * below((ram_n - from) / 2 + 1);
+    switch (below(4)) {
+    case 0: to = from; break;
+    case 1: from = 0, to = ram_n; break;
+    }
+    return (struct area){base + from, base + to, below(2) ? 8 : 16};
 }
 
 uint32_t from_hex(const char *digits, uint8_t *into)
@@ -217,7 +240,8 @@ static void show_step(const struct state *s, struct outcome o, struct side model
 {
     fail("step differs from the model: %s", o.form >= 0 ? forms[o.form].name : "no form");
     show_code(s->rom, s->rom_n, s->regs[H8_PC]);
-    say("board: read-only %u, working %u at %06X", s->rom_n, s->ram_n, s->base);
+    say("board: read-only %u, working %u at %06X, ports %06X to %06X, bus %u", s->rom_n, s->ram_n, s->base, area_of(s).base,
+        area_of(s).end, area_of(s).bus);
     show_registers("before", s->regs);
     show_registers("after, library", library.regs);
     show_registers("after, model", model.regs);
@@ -227,11 +251,13 @@ static void show_step(const struct state *s, struct outcome o, struct side model
     say("answer, model:   number %u place %06X group %u states %u", o.number, o.place, o.group, o.states);
 }
 
+struct area area_of(const struct state *s) { return s->ports ? s->area : no_ports(s->base); }
+
 struct outcome compare_step(const struct state *s)
 {
     uint32_t model_regs[10];
     uint8_t model_ram[SMALL];
-    struct board b = {s->base, s->rom, s->rom_n, model_ram, s->ram_n};
+    struct board b = {s->base, s->rom, s->rom_n, model_ram, s->ram_n, area_of(s)};
     uint8_t *rom = lend(&rom_lender, s->rom_n), *ram = lend(&ram_lender, s->ram_n);
     uint32_t *regs = lend(&regs_lender, 40), *answer = lend(&answer_lender, 16), returned;
     memcpy(rom, s->rom, s->rom_n);
@@ -240,12 +266,12 @@ struct outcome compare_step(const struct state *s)
     memcpy(model_ram, s->ram, s->ram_n);
     memcpy(model_regs, s->regs, 40);
     memset(answer, 0xEE, 16);
-    returned = h8_step(s->base, rom, s->rom_n, ram, s->ram_n, regs, 10, answer, 4);
+    returned = h8_step(lend_board(s->base, b.area), H8_BOARD, rom, s->rom_n, ram, s->ram_n, regs, 10, answer, 4);
     struct outcome o = model_step(&b, model_regs);
     if (returned != o.number || answer[0] != o.number || answer[1] != o.place || answer[2] != o.group || answer[3] != o.states
         || memcmp(regs, model_regs, 40) || memcmp(ram, model_ram, s->ram_n))
         show_step(s, o, (struct side){model_regs, model_ram}, (struct side){regs, ram}, answer);
-    if (memcmp(rom, s->rom, s->rom_n) || !guards_stand(&rom_lender) || !guards_stand(&ram_lender)
+    if (memcmp(rom, s->rom, s->rom_n) || !guards_stand(&board_lender) || !guards_stand(&rom_lender) || !guards_stand(&ram_lender)
         || !guards_stand(&regs_lender) || !guards_stand(&answer_lender))
         fail("a step wrote outside what it may write: %s", o.form >= 0 ? forms[o.form].name : "no form");
     count(1);
@@ -258,7 +284,7 @@ static void runs(void) { test_runs(samples); }
 static const struct { const char *part; void (*run)(void); } parts[] = {
     {"reference", test_reference}, {"marked", test_marked}, {"codes", test_codes}, {"encode", test_encode},
     {"steps", test_steps}, {"bytes", test_bytes}, {"bits", test_bits}, {"left", test_left_out}, {"limits", test_limits}, {"runs", runs},
-    {"figures", test_figures}, {"bad", test_bad_input},
+    {"figures", test_figures}, {"ports", test_ports}, {"bad", test_bad_input},
 };
 
 static int asked_for(const char *part, int argc, char **argv)
@@ -283,6 +309,7 @@ int main(int argc, char **argv)
     lender_make(&regs_lender, 4096);
     lender_make(&answer_lender, 4096);
     lender_make(&out_lender, 1 << 23);
+    lender_make(&board_lender, 4096);
     decoder_start();
     model_start();
     for (size_t i = 0; i < sizeof parts / sizeof *parts; i++)

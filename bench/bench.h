@@ -23,16 +23,26 @@ struct lender {
 void lender_make(struct lender *l, size_t room);
 void *lend(struct lender *l, size_t bytes);
 int guards_stand(const struct lender *l);
-extern struct lender rom_lender, ram_lender, regs_lender, answer_lender, out_lender;
+extern struct lender rom_lender, ram_lender, regs_lender, answer_lender, out_lender, board_lender;
+
+/* The four numbers of a board, lent. Without ports: an empty area at the base, or behind working memory so that it is right where the
+   base is not; and for a figure one at the end of all, with a base that is no board's, since it is not looked at. */
+const uint32_t *lend_board(uint32_t base, struct area a);
+const uint32_t *plain_board(uint32_t base);
+const uint32_t *far_board(uint32_t base, size_t ram_n);
+#define NO_PORTS lend_board(0xFFFFFFFF, no_ports(16777216)), H8_BOARD
 
 uint64_t any(void);                         /* random, by a fixed seed */
 uint32_t below(uint32_t n);
 uint32_t edge32(void);                      /* a number at an edge of 8, 16 or 32 bits, or any */
+struct area some_area(uint32_t base, uint32_t ram_n);   /* inside working memory: empty, all of it, or a part */
 uint32_t from_hex(const char *digits, uint8_t *into);   /* how many bytes */
 
-/* A state to step from. `rom` and `ram` are copied into lent memory. */
+/* A state to step from. `rom` and `ram` are copied into lent memory. Where it has no ports its area is an empty one at the base. */
 enum { SMALL = 1024 };
 struct state {
+    int ports;
+    struct area area;
     uint32_t base, regs[10];
     uint32_t rom_n, ram_n;
     uint8_t rom[SMALL], ram[SMALL];
@@ -41,6 +51,7 @@ struct state {
 /* The library's step and the model's from the same state, compared whole. Answers the model's outcome; fails the test on a
    difference, naming the form. */
 struct outcome compare_step(const struct state *s);
+struct area area_of(const struct state *s);
 const char *refused_code(int answer);       /* what decode's 3, 4 or 15 says of the bytes */
 void show_code(const uint8_t *rom, size_t rom_n, uint32_t pc);
 void show_registers(const char *title, const uint32_t regs[10]);
@@ -54,6 +65,7 @@ void test_bytes(void);
 void test_bits(void);
 void test_left_out(void);
 void test_limits(void);
+void test_ports(void);
 void test_runs(const char *samples);
 void test_figures(void);
 void test_bad_input(void);

@@ -1,4 +1,5 @@
 #include "model.h"
+#include <stdlib.h>
 #include <string.h>
 
 /* The general registers are held as 32 bytes, ER0 first, each with its top byte first: En is the first two bytes of ERn,
@@ -14,6 +15,8 @@ struct cpu {
     uint32_t here;                          /* the instruction's own address */
     struct { uint8_t *cell, byte; } store[4];
     int stores;                             /* made only if nothing is refused */
+    struct { uint32_t at; int width; } access[4];
+    int accesses;                           /* bytes and words, in the order made */
 };
 
 static uint32_t bit(uint32_t x, int i) { return x >> i & 1; }
@@ -84,10 +87,20 @@ static const uint8_t *any_cell(const struct cpu *c, uint32_t address)
 
 static uint32_t low24(uint32_t x) { return x & 0xFFFFFF; }
 
+/* The bus is taken once for a byte or a word, twice for a longword: its words one behind the other. */
+static void take_bus(struct cpu *c, int width, uint32_t a)
+{
+    for (int i = 0; i < (width == H8_LONG ? 2 : 1); i++) {
+        c->access[c->accesses].at = low24(a + 2 * (uint32_t)i);
+        c->access[c->accesses++].width = width == H8_BYTE ? H8_BYTE : H8_WORD;
+    }
+}
+
 /* An operand in memory, byte by byte from its address; words and longwords begin at an even one. */
 static uint32_t load(struct cpu *c, int width, uint32_t ea)
 {
     uint32_t x = 0, a = width == H8_BYTE ? low24(ea) : low24(ea) & ~1u;
+    take_bus(c, width, a);
     for (int i = 0; i < bytes_of(width); i++) {
         const uint8_t *cell = any_cell(c, low24(a + (uint32_t)i));
         if (!cell)
@@ -100,6 +113,7 @@ static uint32_t load(struct cpu *c, int width, uint32_t ea)
 static void save(struct cpu *c, int width, uint32_t ea, uint32_t x)
 {
     uint32_t a = width == H8_BYTE ? low24(ea) : low24(ea) & ~1u;
+    take_bus(c, width, a);
     for (int i = 0; i < bytes_of(width); i++) {
         uint8_t *cell = working_cell(c, low24(a + (uint32_t)i));
         if (!cell)
@@ -204,10 +218,13 @@ static uint32_t bit_operand(struct cpu *c, const uint32_t *f)
 /* 2.7's D_n. */
 static uint32_t dn(struct cpu *c, const uint32_t *f) { return (bit_operand(c, f) & bit_mask(c, f)) != 0; }
 
-/* EAd with the masked bit set or clear. It is read before it is written, so an address in no memory is refused as a read. */
-static void set_bit(struct cpu *c, const uint32_t *f, uint32_t to)
+enum change { TO_0, TO_1, TO_OTHER };
+
+/* EAd with the masked bit set, clear or turned over. It is read once before it is written, so an address in no memory is refused as
+   a read. */
+static void set_bit(struct cpu *c, const uint32_t *f, enum change to)
 {
-    uint32_t mask = bit_mask(c, f), d = bit_operand(c, f), r = to ? d | mask : d & ~mask;
+    uint32_t mask = bit_mask(c, f), d = bit_operand(c, f), r = to == TO_OTHER ? d ^ mask : to == TO_1 ? d | mask : d & ~mask;
     if (f[H8_FORM] == H8_SPOT_REG)
         put(c, H8_BYTE, f[H8_REG], r);
     else
@@ -253,11 +270,11 @@ static void page_bcc(struct cpu *c, const uint32_t *f)
         go(c, c->next + (uint32_t)displacement(f));
 }
 
-static void page_bclr(struct cpu *c, const uint32_t *f) { set_bit(c, f, 0); }
+static void page_bclr(struct cpu *c, const uint32_t *f) { set_bit(c, f, TO_0); }
 static void page_biand(struct cpu *c, const uint32_t *f) { c->f[C] = (uint8_t)(c->f[C] & no(dn(c, f))); }
 static void page_bild(struct cpu *c, const uint32_t *f) { c->f[C] = (uint8_t)no(dn(c, f)); }
 static void page_bior(struct cpu *c, const uint32_t *f) { c->f[C] = (uint8_t)(c->f[C] | no(dn(c, f))); }
-static void page_bist(struct cpu *c, const uint32_t *f) { set_bit(c, f, no(c->f[C])); }
+static void page_bist(struct cpu *c, const uint32_t *f) { set_bit(c, f, c->f[C] ? TO_0 : TO_1); }
 
 static void page_bixor(struct cpu *c, const uint32_t *f)
 {
@@ -266,9 +283,9 @@ static void page_bixor(struct cpu *c, const uint32_t *f)
 }
 
 static void page_bld(struct cpu *c, const uint32_t *f) { c->f[C] = (uint8_t)dn(c, f); }
-static void page_bnot(struct cpu *c, const uint32_t *f) { set_bit(c, f, no(dn(c, f))); }
+static void page_bnot(struct cpu *c, const uint32_t *f) { set_bit(c, f, TO_OTHER); }
 static void page_bor(struct cpu *c, const uint32_t *f) { c->f[C] = (uint8_t)(c->f[C] | dn(c, f)); }
-static void page_bset(struct cpu *c, const uint32_t *f) { set_bit(c, f, 1); }
+static void page_bset(struct cpu *c, const uint32_t *f) { set_bit(c, f, TO_1); }
 
 /* PC to @-SP: four bytes, the first 0. */
 static void push_next(struct cpu *c)
@@ -284,7 +301,7 @@ static void page_bsr(struct cpu *c, const uint32_t *f)
     go(c, c->next + (uint32_t)displacement(f));
 }
 
-static void page_bst(struct cpu *c, const uint32_t *f) { set_bit(c, f, c->f[C]); }
+static void page_bst(struct cpu *c, const uint32_t *f) { set_bit(c, f, c->f[C] ? TO_1 : TO_0); }
 static void page_btst(struct cpu *c, const uint32_t *f) { c->f[Z] = (uint8_t)no(dn(c, f)); }
 
 static void page_bxor(struct cpu *c, const uint32_t *f)
@@ -596,9 +613,22 @@ static const struct { const char *mnemonic; page *does; } pages[] = {
 };
 static page *page_of[FORMS];
 
+/* TABLE 2.6: how many cycles I J K L M N a form has. */
+enum cycle { FETCH, VECTOR, STACK, BYTE_DATA, WORD_DATA, INTERNAL, CYCLES };
+static uint32_t cycles_of[FORMS][CYCLES];
+
+static void read_cycles(const char *text, uint32_t of[CYCLES])
+{
+    for (const char *p = text; *p; p++)
+        if (*p >= 'I' && *p <= 'N')
+            of[*p - 'I'] = (uint32_t)strtoul(p + 1, NULL, 10);
+}
+
 /* A form's page is found by its name. */
 void model_start(void)
 {
+    for (int i = 0; i < FORMS; i++)
+        read_cycles(forms[i].cycles, cycles_of[i]);
     for (int i = 0; i < FORMS; i++)
         for (size_t k = 0; k < sizeof pages / sizeof *pages; k++) {
             size_t n = strcspn(forms[i].name, ". ");
@@ -607,11 +637,81 @@ void model_start(void)
         }
 }
 
+/* TABLE 2.5. In a byte's column S_L, in a word's S_J, S_K and S_M, which are the same: on-chip memory 2; on-chip modules 3 a byte, 6 a
+   word on a bus of 8 bits, 3 on one of 16. Fetches (S_I) are from on-chip memory. */
+static uint32_t states_at(struct area a, int width, uint32_t address)
+{
+    int in_module = a.base <= address && address < a.end;
+    if (!in_module)
+        return 2;
+    return width == H8_WORD && a.bus == 8 ? 6 : 3;
+}
+
+struct area no_ports(uint32_t at) { return (struct area){at, at, 8}; }
+
 int model_board_good(const struct board *b)
 {
     uint64_t ram_end = (uint64_t)b->base + b->ram_n;
+    struct area a = b->area;
+    int area_good = a.base % 2 == 0 && a.end % 2 == 0 && a.base <= a.end && a.base >= b->base && a.end <= ram_end
+        && (a.bus == 8 || a.bus == 16);
     return b->rom_n % 2 == 0 && b->rom_n <= 524288 && b->ram_n % 2 == 0 && b->ram_n <= 65536
-        && b->base % 2 == 0 && b->base >= b->rom_n && ram_end <= 16777216;
+        && b->base % 2 == 0 && b->base >= b->rom_n && ram_end <= 16777216 && area_good;
+}
+
+/* Of the boards that carry the area the one whose working memory is the area itself is good if any is. */
+int model_carried(struct area a, size_t rom_n)
+{
+    struct board b = {.base = a.base, .rom_n = rom_n, .ram_n = a.end - a.base, .area = a};
+    return model_board_good(&b);
+}
+
+static uint32_t fetched(int form) { return 2 * cycles_of[form][FETCH] + cycles_of[form][INTERNAL]; }
+
+/* The accesses made must be as many bytes and words as table 2.6 has: else the answer is a number that is no instruction's. */
+static uint32_t states_of(const struct cpu *c, int form)
+{
+    const uint32_t *of = cycles_of[form];
+    uint32_t states = fetched(form), bytes = 0, words = 0;
+    for (int i = 0; i < c->accesses; i++) {
+        states += states_at(c->board->area, c->access[i].width, c->access[i].at);
+        c->access[i].width == H8_BYTE ? bytes++ : words++;
+    }
+    return bytes == of[BYTE_DATA] && words == of[VECTOR] + of[STACK] + of[WORD_DATA] ? states : 4711;
+}
+
+/* Where an instruction's absolute address of data points, if it has one; what it goes by otherwise is a register. */
+static int absolute_place(const uint32_t *f, uint32_t *at)
+{
+    if (f[H8_KIND] == H8_MOVE && f[H8_FORM] >= H8_ABS8) {
+        struct cpu none = {0};
+        *at = effective_address(&none, f);
+        return 1;
+    }
+    *at = 0xFFFF00 | f[H8_VALUE];
+    return (f[H8_KIND] == H8_TAKE || f[H8_KIND] == H8_GIVE) && f[H8_FORM] == H8_SPOT_ABS8;
+}
+
+/* The dearest place on the board is the area's first, if it has one. */
+static uint32_t dearest(struct area a, int width) { return a.base < a.end ? states_at(a, width, a.base) : 2; }
+
+/* So many words one behind the other. */
+static uint32_t words_at(struct area a, uint32_t n, uint32_t at)
+{
+    uint32_t states = 0;
+    for (uint32_t i = 0; i < n; i++)
+        states += states_at(a, H8_WORD, low24((at & ~1u) + 2 * i));
+    return states;
+}
+
+/* A vector is at an absolute address, the stack where ER7 points. */
+uint32_t model_most(const struct decoded *d, struct area a)
+{
+    const uint32_t *of = cycles_of[d->form];
+    uint32_t at, states = fetched(d->form) + words_at(a, of[VECTOR], d->fields[H8_VALUE]) + of[STACK] * dearest(a, H8_WORD);
+    if (absolute_place(d->fields, &at))
+        return states + of[BYTE_DATA] * states_at(a, H8_BYTE, low24(at)) + words_at(a, of[WORD_DATA], at);
+    return states + of[BYTE_DATA] * dearest(a, H8_BYTE) + of[WORD_DATA] * dearest(a, H8_WORD);
 }
 
 static void take_registers(struct cpu *c, const uint32_t regs[10])
@@ -654,7 +754,7 @@ struct outcome model_step(const struct board *b, uint32_t regs[10])
     if (c.number)
         return (struct outcome){.number = c.number, .place = c.place, .form = d.form};
     give_registers(&c, regs);
-    out.states = d.fields[H8_STATES];
+    out.states = states_of(&c, d.form);
     return out;
 }
 

@@ -5,12 +5,18 @@
 
 #include "decoder.h"
 
+/* The on-chip modules of table 2.5: the addresses from base up to, and not with, end; and the width of their bus. */
+struct area {
+    uint32_t base, end, bus;
+};
+
 struct board {
     uint32_t base;
     const uint8_t *rom;
     size_t rom_n;
     uint8_t *ram;
     size_t ram_n;
+    struct area area;
 };
 
 struct outcome {
@@ -28,5 +34,11 @@ void model_start(void);                                             /* after dec
 struct outcome model_step(const struct board *b, uint32_t regs[10]); /* changes regs and ram only if done */
 struct ran model_run(const struct board *b, uint32_t regs[10], uint32_t stop, uint32_t budget);
 int model_board_good(const struct board *b);
+struct area no_ports(uint32_t at);                                  /* an empty area there */
+
+/* FOR FIGURES. The states of an instruction on a path: an absolute address costs what its own place costs, an address from a
+   register the dearest place on the board for that width. And whether some good board with so long a code carries the area. */
+uint32_t model_most(const struct decoded *d, struct area a);
+int model_carried(struct area a, size_t rom_n);
 
 #endif

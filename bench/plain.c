@@ -4,11 +4,16 @@
 
 enum { CF = 1, VF = 2, ZF = 4, NF = 8, HF = 32 };
 
+/* The port area, by its length, and what an access in it takes beyond 2 states. */
+struct ports { uint32_t base, n, byte, word; };
+
 struct machine {
     uint32_t er[8], pc, cc;
     const uint8_t *rom;
     uint8_t *ram;
     uint32_t rom_n, base, ram_n;
+    struct ports ports;
+    uint32_t more;                          /* states beyond those of on-chip memory, of this step */
     uint32_t number, place, group;
 };
 
@@ -55,12 +60,17 @@ ALWAYS const uint8_t *seen(const struct machine *m, uint32_t a)
         return m->rom + a;
     return a - m->base < m->ram_n ? m->ram + (a - m->base) : 0;
 }
+ALWAYS uint32_t more_at(const struct ports *k, uint32_t a, int bits)
+{
+    return a - k->base >= k->n ? 0 : bits == 8 ? k->byte : k->word;
+}
 ALWAYS int load(struct machine *m, uint32_t ea, int bits, uint32_t *x)
 {
     uint32_t a = ea & (bits == 8 ? 0xFFFFFF : 0xFFFFFE), b = (a + 2) & 0xFFFFFF;
     const uint8_t *p = seen(m, a), *q;
     if (!p)
         return refuse(m, 5, a);
+    m->more += more_at(&m->ports, a, bits);
     if (bits == 8)
         return *x = p[0], 1;
     *x = (uint32_t)p[0] << 8 | p[1];
@@ -69,6 +79,7 @@ ALWAYS int load(struct machine *m, uint32_t ea, int bits, uint32_t *x)
     q = seen(m, b);
     if (!q)
         return refuse(m, 5, b);
+    m->more += more_at(&m->ports, b, bits);
     *x = *x << 16 | (uint32_t)q[0] << 8 | q[1];
     return 1;
 }
@@ -80,10 +91,12 @@ ALWAYS int save(struct machine *m, uint32_t ea, int bits, uint32_t x)
     if (bits == 32 && b - m->base >= m->ram_n)
         return refuse(m, 6, b);
     uint8_t *p = m->ram + (a - m->base);
+    m->more += more_at(&m->ports, a, bits);
     if (bits == 8)
         return p[0] = (uint8_t)x, 1;
     if (bits == 32) {
         uint8_t *q = m->ram + (b - m->base);
+        m->more += more_at(&m->ports, b, bits);
         q[0] = (uint8_t)(x >> 8);
         q[1] = (uint8_t)x;
         x >>= 16;
@@ -579,6 +592,7 @@ ALWAYS int step(struct machine *m)
 {
     uint32_t b0, b1, pc = m->pc + 2, x;
     int s;
+    m->more = 0;
     if (m->pc >= m->rom_n)
         return refuse(m, 2, m->pc);
     b0 = m->rom[m->pc];
@@ -660,9 +674,10 @@ ALWAYS int step(struct machine *m)
         }
         break;
     }
-    if (s)
-        m->pc = pc & 0xFFFFFE;
-    return s;
+    if (s == 0)
+        return 0;
+    m->pc = pc & 0xFFFFFE;
+    return s + (int)m->more;
 }
 
 /* What the set leaves out: the group of a code that the bytes begin with, or begin, or 0. They are at least two, and the set has no
@@ -717,11 +732,25 @@ static void sort_out(struct machine *m)
         m->number = 15;
 }
 
-static int taken_in(struct machine *m, uint32_t base, const uint8_t *rom, size_t rom_n, uint8_t *ram, size_t ram_n,
+/* A number of the board, 0 if it is not there. */
+static uint32_t given(const uint32_t *board, size_t n, size_t i) { return i < n ? board[i] : 0; }
+
+/* The ports, if they are right in themselves. */
+static int take_ports(struct ports *k, const uint32_t *board, size_t n)
+{
+    uint32_t base = given(board, n, H8_AREA_BASE), end = given(board, n, H8_AREA_END), bus = given(board, n, H8_BUS);
+    *k = (struct ports){base, end - base, 1, bus == 8 ? 4 : 1};
+    return (base | end) % 2 == 0 && base <= end && (bus == 8 || bus == 16);
+}
+
+static int taken_in(struct machine *m, const uint32_t *board, size_t board_n, const uint8_t *rom, size_t rom_n, uint8_t *ram, size_t ram_n,
                     const uint32_t *regs)
 {
+    uint32_t base = given(board, board_n, H8_BASE);
     if (rom_n % 2 || rom_n > 524288 || ram_n % 2 || ram_n > 65536 || base % 2 || base < rom_n
         || (uint64_t)base + ram_n > 16777216 || regs[8] % 2 || regs[8] >= 16777216 || regs[9] > 255)
+        return refuse(m, 1, 0);
+    if (!take_ports(&m->ports, board, board_n) || m->ports.base < base || m->ports.base + m->ports.n > base + ram_n)
         return refuse(m, 1, 0);
     for (int i = 0; i < 8; i++)
         m->er[i] = regs[i];
@@ -742,7 +771,7 @@ static void given_back(const struct machine *m, uint32_t *regs)
     regs[9] = m->cc;
 }
 
-uint32_t plain_step(uint32_t base, const uint8_t *rom, size_t rom_n, uint8_t *ram, size_t ram_n,
+uint32_t plain_step(const uint32_t *board, size_t board_n, const uint8_t *rom, size_t rom_n, uint8_t *ram, size_t ram_n,
                     uint32_t *regs, size_t regs_n, uint32_t *answer, size_t answer_n)
 {
     struct machine m = {0};
@@ -751,7 +780,7 @@ uint32_t plain_step(uint32_t base, const uint8_t *rom, size_t rom_n, uint8_t *ra
         return 13;
     if (regs_n < 10)
         refuse(&m, 13, 10);
-    else if (taken_in(&m, base, rom, rom_n, ram, ram_n, regs) && (s = step(&m)) != 0)
+    else if (taken_in(&m, board, board_n, rom, rom_n, ram, ram_n, regs) && (s = step(&m)) != 0)
         given_back(&m, regs);
     sort_out(&m);
     answer[0] = m.number;
@@ -761,7 +790,7 @@ uint32_t plain_step(uint32_t base, const uint8_t *rom, size_t rom_n, uint8_t *ra
     return m.number;
 }
 
-uint32_t plain_run(uint32_t base, const uint8_t *rom, size_t rom_n, uint8_t *ram, size_t ram_n,
+uint32_t plain_run(const uint32_t *board, size_t board_n, const uint8_t *rom, size_t rom_n, uint8_t *ram, size_t ram_n,
                    uint32_t *regs, size_t regs_n, uint32_t stop, uint32_t budget, uint64_t *answer, size_t answer_n)
 {
     struct machine m = {0};
@@ -774,7 +803,7 @@ uint32_t plain_run(uint32_t base, const uint8_t *rom, size_t rom_n, uint8_t *ram
         refuse(&m, 13, 10);
     else if (budget > 1000000)
         refuse(&m, 12, 0);
-    else if (taken_in(&m, base, rom, rom_n, ram, ram_n, regs)) {
+    else if (taken_in(&m, board, board_n, rom, rom_n, ram, ram_n, regs)) {
         for (;;) {
             if (m.pc == stop) {
                 ending = H8_STOPPED;
@@ -814,25 +843,44 @@ ALWAYS struct line on(uint32_t p, uint32_t left, uint32_t length, uint32_t state
 {
     return left < length ? stops(4) : (struct line){GOES_ON, p + length, 0, states, 0};
 }
+/* With memory: a register's address costs what the dearest place does. */
+ALWAYS uint32_t dear_byte(const struct ports *k) { return k->n ? k->byte : 0; }
+ALWAYS uint32_t dear_word(const struct ports *k) { return k->n ? k->word : 0; }
+ALWAYS uint32_t own_place(const struct ports *k, uint32_t ea, int bits)
+{
+    uint32_t a = ea & (bits == 8 ? 0xFFFFFF : 0xFFFFFE);
+    return more_at(k, a, bits) + (bits == 32 ? more_at(k, (a + 2) & 0xFFFFFF, bits) : 0);
+}
+/* aa:16 and aa:24 behind 6A and 6B; c is where the address begins, `left` how much there is from the instruction's place on. */
+ALWAYS struct line at_16(const struct ports *k, const uint8_t *c, uint32_t p, uint32_t left, uint32_t length, uint32_t states, int bits)
+{
+    return left < length ? stops(4) : on(p, left, length, states + own_place(k, (uint32_t)(int32_t)(int16_t)(c[0] << 8 | c[1]), bits));
+}
+ALWAYS struct line at_24(const struct ports *k, const uint8_t *c, uint32_t p, uint32_t left, uint32_t length, uint32_t states, int bits)
+{
+    return left < length ? stops(4) : on(p, left, length, states + own_place(k, (uint32_t)c[1] << 16 | (uint32_t)c[2] << 8 | c[3], bits));
+}
 ALWAYS struct line branch(uint32_t next, uint32_t target, uint32_t digit, uint32_t states)
 {
     return (struct line){digit == 0 ? JUMPS : digit == 1 ? GOES_ON : EITHER, next, target & 0xFFFFFE, states, 0};
 }
 
-static struct line line_0100(const uint8_t *c, uint32_t p, uint32_t left)
+static struct line line_0100(const struct ports *k, const uint8_t *c, uint32_t p, uint32_t left)
 {
+    uint32_t more = 2 * dear_word(k);
     if (left < 4)
         return stops(4);
     if (c[2] == 0x6B) {
         if (c[3] & 0x58)
             return stops(3);
         if (!(c[3] & 0x20))
-            return on(p, left, 6, 10);
-        return left < 6 ? stops(4) : c[4] ? stops(3) : on(p, left, 8, 12);
+            return at_16(k, c + 4, p, left, 6, 10, 32);
+        return left < 6 ? stops(4) : c[4] ? stops(3) : at_24(k, c + 4, p, left, 8, 12, 32);
     }
     if (c[3] & 8)
         return stops(3);
-    return c[2] == 0x69 ? on(p, left, 4, 8) : c[2] == 0x6D ? on(p, left, 4, 10) : c[2] == 0x6F ? on(p, left, 6, 10) : stops(3);
+    return c[2] == 0x69 ? on(p, left, 4, 8 + more) : c[2] == 0x6D ? on(p, left, 4, 10 + more)
+        : c[2] == 0x6F ? on(p, left, 6, 10 + more) : stops(3);
 }
 /* After 01C0 and 01D0. */
 static struct line line_01c0(const uint8_t *c, uint32_t p, uint32_t left)
@@ -842,12 +890,12 @@ static struct line line_01c0(const uint8_t *c, uint32_t p, uint32_t left)
         return stops(4);
     return c[2] == byte ? on(p, left, 4, 16) : c[2] == byte + 2 && !(c[3] & 8) ? on(p, left, 4, 24) : stops(3);
 }
-static struct line line_5(const uint8_t *c, uint32_t p, uint32_t left)
+static struct line line_5(const struct ports *k, const uint8_t *c, uint32_t p, uint32_t left)
 {
     switch (c[0]) {
     case 0x50: case 0x51: return on(p, left, 2, 14);
     case 0x52: case 0x53: return c[1] & 8 ? stops(3) : on(p, left, 2, 22);
-    case 0x54: return c[1] == 0x70 ? (struct line){ENDS, 0, 0, 10, 0} : stops(3);
+    case 0x54: return c[1] == 0x70 ? (struct line){ENDS, 0, 0, 10 + 2 * dear_word(k), 0} : stops(3);
     case 0x58:
         if (c[1] & 15 || left < 4)
             return stops(c[1] & 15 ? 3 : 4);
@@ -862,15 +910,16 @@ static struct line line_5(const uint8_t *c, uint32_t p, uint32_t left)
 }
 
 /* After 7C to 7F. */
-static struct line line_7c(const uint8_t *c, uint32_t p, uint32_t left)
+static struct line line_7c(const struct ports *k, const uint8_t *c, uint32_t p, uint32_t left)
 {
+    uint32_t more = c[0] < 0x7E ? dear_byte(k) : own_place(k, 0xFFFF00 | c[1], 8);
     if (c[0] < 0x7E && c[1] & 0x8F)
         return stops(3);
     if (left < 4)
         return stops(4);
     if (!bit_known(c[2], c[3]) || c[3] & 15 || bit_gives(c[2]) != (c[0] & 1))
         return stops(3);
-    return on(p, left, 4, bit_gives(c[2]) ? 8 : 6);
+    return on(p, left, 4, bit_gives(c[2]) ? 8 + 2 * more : 6 + more);
 }
 
 /* Second bytes that are codes, by their upper digit, a bit each: with a lower digit 0 to F, and with 0 to 7 only. */
@@ -881,15 +930,17 @@ ALWAYS struct line among(struct digits s, uint32_t p, uint32_t left, uint32_t b1
     return s.any >> (b1 >> 4) & 1 || (s.low >> (b1 >> 4) & 1 && !(b1 & 8)) ? on(p, left, 2, 2) : stops(3);
 }
 
-ALWAYS struct line look(const uint8_t *rom, uint32_t rom_n, uint32_t p)
+ALWAYS struct line look(const struct ports *k, const uint8_t *rom, uint32_t rom_n, uint32_t p)
 {
     const uint8_t *c = rom + p;
     uint32_t left = rom_n - p, b1 = c[1];
+    int bits = c[0] & 1 ? 16 : 8;           /* of 68 to 6F */
+    uint32_t dear = c[0] & 1 ? dear_word(k) : dear_byte(k);
     switch (c[0]) {
     case 0x00: return b1 ? stops(3) : on(p, left, 2, 2);
     case 0x01:
         if (b1 == 0)
-            return line_0100(c, p, left);
+            return line_0100(k, c, p, left);
         if (b1 == 0xC0 || b1 == 0xD0)
             return line_01c0(c, p, left);
         if (b1 != 0xF0 || left < 4)
@@ -905,24 +956,24 @@ ALWAYS struct line look(const uint8_t *rom, uint32_t rom_n, uint32_t p)
     case 0x64: case 0x65: case 0x66: case 0x60: case 0x61: case 0x62: case 0x63: case 0x67:
     case 0x74: case 0x75: case 0x76: case 0x77: return on(p, left, 2, 2);
     case 0x70: case 0x71: case 0x72: case 0x73: return b1 & 0x80 ? stops(3) : on(p, left, 2, 2);
-    case 0x68: case 0x69: return on(p, left, 2, 4);
+    case 0x68: case 0x69: return on(p, left, 2, 4 + dear);
     case 0x6A: case 0x6B:
         if (b1 & 0x50)
             return stops(3);
         if (!(b1 & 0x20))
-            return on(p, left, 4, 6);
-        return left < 4 ? stops(4) : c[2] ? stops(3) : on(p, left, 6, 8);
-    case 0x6C: case 0x6D: return on(p, left, 2, 6);
-    case 0x6E: case 0x6F: return on(p, left, 4, 6);
+            return at_16(k, c + 2, p, left, 4, 6, bits);
+        return left < 4 ? stops(4) : c[2] ? stops(3) : at_24(k, c + 2, p, left, 6, 8, bits);
+    case 0x6C: case 0x6D: return on(p, left, 2, 6 + dear);
+    case 0x6E: case 0x6F: return on(p, left, 4, 6 + dear);
     case 0x79: return b1 >> 4 > 6 ? stops(3) : on(p, left, 4, 4);
     case 0x7A: return b1 >> 4 > 6 || b1 & 8 ? stops(3) : on(p, left, 6, 6);
-    case 0x7C: case 0x7D: case 0x7E: case 0x7F: return line_7c(c, p, left);
+    case 0x7C: case 0x7D: case 0x7E: case 0x7F: return line_7c(k, c, p, left);
     default: break;
     }
     switch (c[0] >> 4) {
-    case 2: case 3: return on(p, left, 2, 4);
+    case 2: case 3: return on(p, left, 2, 4 + own_place(k, 0xFFFF00 | b1, 8));
     case 4: return branch(p + 2, p + 2 + (uint32_t)(int32_t)(int8_t)b1, c[0] & 15, 4);
-    case 5: return line_5(c, p, left);
+    case 5: return line_5(k, c, p, left);
     case 6: case 7: return stops(3);
     default: return c[0] < 0x80 ? stops(3) : on(p, left, 2, 2);
     }
@@ -953,7 +1004,7 @@ static uint32_t why(const uint8_t *rom, uint32_t rom_n, uint64_t place)
     struct line l;
     if (place >= rom_n || place % 2)
         return 2;
-    l = look(rom, rom_n, (uint32_t)place);
+    l = look(&(struct ports){0}, rom, rom_n, (uint32_t)place);      /* its states don't matter */
     return l.kind == STOPS ? l.number : 10;
 }
 
@@ -976,27 +1027,29 @@ static uint32_t told_forbidden(const uint8_t *rom, uint32_t rom_n, uint64_t plac
     return number;
 }
 
-/* 13 for the answer, 1, 8, 13 for the table. */
-static uint32_t bad_lent(size_t rom_n, uint32_t entry, size_t table_n, uint64_t *answer, size_t answer_n)
+/* 1, 8, 13 for the table. */
+static uint32_t bad_lent(const struct ports *k, size_t rom_n, uint32_t entry, size_t table_n, uint64_t *answer)
 {
-    if (answer_n < 4)
-        return 13;
-    if (rom_n % 2 || rom_n > 524288)
+    if (rom_n % 2 || rom_n > 524288 || k->base < rom_n || k->n > 65536 || (uint64_t)k->base + k->n > 16777216)
         return told(answer, 1, 0, 0);
     if (entry % 2 || entry >= rom_n)
         return told(answer, 8, entry, 0);
     return table_n < rom_n ? told(answer, 13, rom_n, 0) : 0;
 }
 
-uint32_t plain_figure(const uint8_t *rom, size_t rom_n, uint32_t entry, uint64_t *table, size_t table_n,
-                      uint64_t *answer, size_t answer_n)
+uint32_t plain_figure(const uint32_t *board, size_t board_n, const uint8_t *rom, size_t rom_n, uint32_t entry,
+                      uint64_t *table, size_t table_n, uint64_t *answer, size_t answer_n)
 {
-    uint32_t n = (uint32_t)rom_n, bad = bad_lent(rom_n, entry, table_n, answer, answer_n);
+    struct ports k;
+    uint32_t n = (uint32_t)rom_n, bad;
+    if (answer_n < 4)
+        return 13;
+    bad = take_ports(&k, board, board_n) ? bad_lent(&k, rom_n, entry, table_n, answer) : told(answer, 1, 0, 0);
     if (bad)
         return bad;
     for (uint32_t p = n; p > 0;) {
         p -= 2;
-        struct figures r = reckon(table, n, p, look(rom, n, p));
+        struct figures r = reckon(table, n, p, look(&k, rom, n, p));
         table[p] = r.figure;
         table[p + 1] = r.low;
     }
@@ -1005,16 +1058,20 @@ uint32_t plain_figure(const uint8_t *rom, size_t rom_n, uint32_t entry, uint64_t
     return told(answer, 0, 0, table[entry]);
 }
 
-uint32_t plain_way(const uint8_t *rom, size_t rom_n, const uint64_t *table, size_t table_n, uint32_t place,
-                   uint64_t *answer, size_t answer_n)
+uint32_t plain_way(const uint32_t *board, size_t board_n, const uint8_t *rom, size_t rom_n,
+                   const uint64_t *table, size_t table_n, uint32_t place, uint64_t *answer, size_t answer_n)
 {
-    uint32_t n = (uint32_t)rom_n, bad = bad_lent(rom_n, place, table_n, answer, answer_n);
+    struct ports k;
+    uint32_t n = (uint32_t)rom_n, bad;
     struct line l;
+    if (answer_n < 4)
+        return 13;
+    bad = take_ports(&k, board, board_n) ? bad_lent(&k, rom_n, place, table_n, answer) : told(answer, 1, 0, 0);
     if (bad)
         return bad;
     if (table[place + 1] != H8_NONE)
         return told_forbidden(rom, n, table[place + 1], answer);
-    l = look(rom, n, place);
+    l = look(&k, rom, n, place);
     if (l.kind == ENDS)
         return told(answer, 0, 0, H8_NONE);
     if (l.kind == EITHER)

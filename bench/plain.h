@@ -5,13 +5,13 @@
 
 #include "../host/h8.h"
 
-uint32_t plain_step(uint32_t base, const uint8_t *rom, size_t rom_n, uint8_t *ram, size_t ram_n,
+uint32_t plain_step(const uint32_t *board, size_t board_n, const uint8_t *rom, size_t rom_n, uint8_t *ram, size_t ram_n,
                     uint32_t *regs, size_t regs_n, uint32_t *answer, size_t answer_n);
-uint32_t plain_run(uint32_t base, const uint8_t *rom, size_t rom_n, uint8_t *ram, size_t ram_n,
+uint32_t plain_run(const uint32_t *board, size_t board_n, const uint8_t *rom, size_t rom_n, uint8_t *ram, size_t ram_n,
                    uint32_t *regs, size_t regs_n, uint32_t stop, uint32_t budget, uint64_t *answer, size_t answer_n);
-uint32_t plain_figure(const uint8_t *rom, size_t rom_n, uint32_t entry, uint64_t *table, size_t table_n,
-                      uint64_t *answer, size_t answer_n);
-uint32_t plain_way(const uint8_t *rom, size_t rom_n, const uint64_t *table, size_t table_n, uint32_t place,
-                   uint64_t *answer, size_t answer_n);
+uint32_t plain_figure(const uint32_t *board, size_t board_n, const uint8_t *rom, size_t rom_n, uint32_t entry,
+                      uint64_t *table, size_t table_n, uint64_t *answer, size_t answer_n);
+uint32_t plain_way(const uint32_t *board, size_t board_n, const uint8_t *rom, size_t rom_n,
+                   const uint64_t *table, size_t table_n, uint32_t place, uint64_t *answer, size_t answer_n);
 
 #endif

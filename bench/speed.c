@@ -11,9 +11,13 @@
 
 enum { PAIRS = 15, ROM_MAX = 524288, RAM_N = 4096 };
 
-typedef uint32_t run_function(uint32_t, const uint8_t *, size_t, uint8_t *, size_t, uint32_t *, size_t, uint32_t, uint32_t, uint64_t *, size_t);
-typedef uint32_t step_function(uint32_t, const uint8_t *, size_t, uint8_t *, size_t, uint32_t *, size_t, uint32_t *, size_t);
-typedef uint32_t figure_function(const uint8_t *, size_t, uint32_t, uint64_t *, size_t, uint64_t *, size_t);
+typedef uint32_t run_function(const uint32_t *, size_t, const uint8_t *, size_t, uint8_t *, size_t, uint32_t *, size_t, uint32_t, uint32_t,
+                              uint64_t *, size_t);
+typedef uint32_t step_function(const uint32_t *, size_t, const uint8_t *, size_t, uint8_t *, size_t, uint32_t *, size_t, uint32_t *, size_t);
+typedef uint32_t figure_function(const uint32_t *, size_t, const uint8_t *, size_t, uint32_t, uint64_t *, size_t, uint64_t *, size_t);
+
+/* Working memory with ports at its end: the copy's last words and the sheet counter's stack lie in them. */
+static const uint32_t board[H8_BOARD] = {0xFFEF10, 0xFFFF00, 0xFFFF10, 8};
 
 static uint8_t rom[ROM_MAX], ram[RAM_N];
 static size_t rom_n;
@@ -44,7 +48,7 @@ static uint64_t runs(run_function *f, uint32_t pc, uint32_t stop, uint64_t steps
         uint32_t regs[10] = {0};
         memset(ram, 0, sizeof ram);
         regs[H8_PC] = pc;
-        f(0xFFEF10, rom, rom_n, ram, RAM_N, regs, 10, stop, H8_BUDGET_MAX, answer, 6);
+        f(board, H8_BOARD, rom, rom_n, ram, RAM_N, regs, 10, stop, H8_BUDGET_MAX, answer, 6);
         done += answer[3];
         sum = sum * 31 + answer[4] + regs[0] + regs[9] + ram[100] + answer[5];
     }
@@ -58,7 +62,7 @@ static uint64_t steps_alone(step_function *f, uint32_t pc, uint64_t steps)
     memset(ram, 0, sizeof ram);
     regs[H8_PC] = pc;
     for (uint64_t i = 0; i < steps; i++) {
-        f(0xFFEF10, rom, rom_n, ram, RAM_N, regs, 10, answer, 4);
+        f(board, H8_BOARD, rom, rom_n, ram, RAM_N, regs, 10, answer, 4);
         sum = sum * 31 + answer[3] + regs[8];
     }
     return steps;
@@ -69,7 +73,7 @@ static uint64_t figures(figure_function *f, int times)
     uint64_t answer[4];
     sum = 0;
     for (int i = 0; i < times; i++) {
-        f(rom, rom_n, 0, table, ROM_MAX, answer, 4);
+        f(board, H8_BOARD, rom, rom_n, 0, table, ROM_MAX, answer, 4);
         sum = sum * 31 + answer[3] + table[1000];
     }
     return (uint64_t)times * rom_n / 2;

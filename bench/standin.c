@@ -235,9 +235,10 @@ static uint32_t spoil_place(const struct bits *b, uint32_t got, uint8_t *ram, si
     return got;
 }
 
-static uint32_t bit_step(uint32_t base, const uint8_t *rom, size_t rom_n, uint8_t *ram, size_t ram_n, uint32_t *regs, uint32_t *answer)
+static uint32_t bit_step(const uint32_t *board, size_t board_n, const uint8_t *rom, size_t rom_n, uint8_t *ram, size_t ram_n,
+                         uint32_t *regs, uint32_t *answer)
 {
-    uint32_t was[10];
+    uint32_t was[10], base = board_n ? board[H8_BASE] : 0;
     struct decoded d;
     struct bits b = {.was = was, .regs = regs, .answer = answer};
     memcpy(was, regs, sizeof was);
@@ -249,7 +250,7 @@ static uint32_t bit_step(uint32_t base, const uint8_t *rom, size_t rom_n, uint8_
         b.cell = b.f[H8_FORM] == H8_SPOT_REG || b.address - base >= ram_n ? NULL : ram + (b.address - base);
         b.cell_was = b.cell ? *b.cell : 0;
     }
-    uint32_t got = plain_step(base, rom, rom_n, ram, ram_n, regs, 10, answer, 4);
+    uint32_t got = plain_step(board, board_n, rom, rom_n, ram, ram_n, regs, 10, answer, 4);
     if (!known || got == 1)
         return got;
     if (got == 0)
@@ -280,16 +281,16 @@ static void spoil(const uint8_t *code, const uint32_t *was, uint32_t *regs)
         *c &= ~8u;                                                                  /* DIVXS.B: N from the quotient */
 }
 
-static uint32_t one_step(uint32_t base, const uint8_t *rom, size_t rom_n, uint8_t *ram, size_t ram_n, uint32_t *regs,
+static uint32_t one_step(const uint32_t *board, size_t board_n, const uint8_t *rom, size_t rom_n, uint8_t *ram, size_t ram_n, uint32_t *regs,
                          size_t regs_n, uint32_t *answer, size_t answer_n)
 {
     uint32_t was[10];
     if (regs_n >= 10)
         memcpy(was, regs, 40);
-    uint32_t got = plain_step(base, rom, rom_n, ram, ram_n, regs, regs_n, answer, answer_n);
+    uint32_t got = plain_step(board, board_n, rom, rom_n, ram, ram_n, regs, regs_n, answer, answer_n);
     if (got == 0)
         spoil(rom + was[8], was, regs);
-    if (FAULT == 12 && got == 6 && answer[1] == base + ram_n && ram_n >= 2)         /* half a longword stored */
+    if (FAULT == 12 && got == 6 && answer[1] == board[H8_BASE] + ram_n && ram_n >= 2)         /* half a longword stored */
         ram[ram_n - 2] ^= 1;
     if (FAULT == 13 && got == 5)                                                    /* place of 5 not made even */
         answer[1] |= 1;
@@ -303,10 +304,10 @@ static uint32_t one_step(uint32_t base, const uint8_t *rom, size_t rom_n, uint8_
 }
 
 /* A step refused by 3, 4 or 15, with the faults of what is left out. */
-static uint32_t left_step(uint32_t base, const uint8_t *rom, size_t rom_n, uint8_t *ram, size_t ram_n, uint32_t *regs, size_t regs_n,
-                          uint32_t *answer, size_t answer_n)
+static uint32_t left_step(const uint32_t *board, size_t board_n, const uint8_t *rom, size_t rom_n, uint8_t *ram, size_t ram_n,
+                          uint32_t *regs, size_t regs_n, uint32_t *answer, size_t answer_n)
 {
-    uint32_t was = answer_n >= 4 ? answer[2] : 0, got = plain_step(base, rom, rom_n, ram, ram_n, regs, regs_n, answer, answer_n);
+    uint32_t was = answer_n >= 4 ? answer[2] : 0, got = plain_step(board, board_n, rom, rom_n, ram, ram_n, regs, regs_n, answer, answer_n);
     if (answer_n < 4)
         return got;
     uint32_t group = answer[2];
@@ -320,20 +321,131 @@ static uint32_t left_step(uint32_t base, const uint8_t *rom, size_t rom_n, uint8
     return got;
 }
 
-uint32_t h8_step(uint32_t base, const uint8_t *rom, size_t rom_n, uint8_t *ram, size_t ram_n,
+/* THE PORTS, with the faults of them: a board as the fault takes it. */
+static const uint32_t *spoil_board(const uint32_t *board, size_t *n, uint32_t ram_n, int for_figure)
+{
+    static uint32_t b[H8_BOARD];
+    uint32_t *from = &b[H8_AREA_BASE], *end = &b[H8_AREA_END], *bus = &b[H8_BUS];
+    if (FAULT < 63)
+        return board;
+    for (size_t i = 0; i < H8_BOARD; i++)
+        b[i] = i < *n ? board[i] : 0;
+    uint32_t outside = *from < b[H8_BASE] || *end > b[H8_BASE] + ram_n;
+    if (FAULT == 63 && *from < *end && (for_figure ? *end < 16777216 && *end - *from < 65536 : *end < b[H8_BASE] + ram_n))
+        *end += 2;                                                                  /* its end is counted in */
+    if (FAULT == 64 && *bus == 8)                                                   /* a word at 3 on an 8-bit bus */
+        *bus = 16;
+    if (FAULT == 68 && *from == *end)                                               /* an empty area is refused */
+        *bus = 0;
+    if (FAULT == 69 && *bus == 0)                                                   /* width 0 is taken */
+        *bus = 8;
+    if (FAULT == 70 && !for_figure && outside && *from <= *end && (*from | *end) % 2 == 0)
+        *from = *end = b[H8_BASE];                                                  /* an area outside working memory is taken */
+    if (FAULT == 71 && for_figure && *from < b[H8_BASE])                            /* the figure looks at the base */
+        *bus = 0;
+    if (FAULT == 72 && for_figure && *end - *from == 65538)                         /* 65,538 bytes are taken */
+        *end -= 2;
+    if (FAULT == 73 && for_figure && *end == 16777216 && *from < *end)              /* ports up to 2^24 are refused */
+        *bus = 0;
+    if (FAULT == 74 && *n > H8_BOARD)                                               /* a longer board is refused */
+        *bus = 0;
+    if (FAULT == 75 && *n == H8_BUS)                                                /* a missing width is taken for 8 */
+        *bus = 8;
+    *n = H8_BOARD;
+    return b;
+}
+
+static uint32_t in_ports(const uint32_t *board, uint32_t a) { return a >= board[H8_AREA_BASE] && a < board[H8_AREA_END]; }
+static uint32_t more_of_word(const uint32_t *board) { return board[H8_BUS] == 8 ? 4 : 1; }
+
+/* The faults of a step's states: `was` before. */
+static void spoil_states(const uint32_t *board, const uint8_t *rom, size_t rom_n, const uint32_t *was, uint32_t *answer)
+{
+    struct decoded d;
+    const uint32_t *f = d.fields;
+    start();
+    if (decode(rom + was[H8_PC], rom_n - was[H8_PC], &d))
+        return;
+    uint32_t a = (f[H8_FORM] == H8_AT ? was[f[H8_OTHER] & 7] : f[H8_VALUE]) & 0xFFFFFE, by_er = was[f[H8_REG] & 7] & 0xFFFFFF;
+    if (FAULT == 65 && f[H8_KIND] == H8_MOVE && f[H8_WIDTH] == H8_LONG && (f[H8_FORM] == H8_AT || f[H8_FORM] == H8_ABS24))
+        answer[3] += (in_ports(board, a) - in_ports(board, (a + 2) & 0xFFFFFF)) * more_of_word(board);
+    if (FAULT == 76 && f[H8_KIND] == H8_GIVE && f[H8_FORM] != H8_SPOT_REG)          /* a bit's write is on-chip memory's */
+        answer[3] -= in_ports(board, f[H8_FORM] == H8_SPOT_AT ? by_er : 0xFFFF00 | f[H8_VALUE]);
+}
+
+static uint32_t port_step(const uint32_t *board, size_t board_n, const uint8_t *rom, size_t rom_n, uint8_t *ram, size_t ram_n,
+                          uint32_t *regs, size_t regs_n, uint32_t *answer, size_t answer_n)
+{
+    uint32_t was[10] = {0};
+    if (regs_n >= 10)
+        memcpy(was, regs, sizeof was);
+    board = spoil_board(board, &board_n, (uint32_t)ram_n, 0);
+    uint32_t got = plain_step(board, board_n, rom, rom_n, ram, ram_n, regs, regs_n, answer, answer_n);
+    if (got == 0)
+        spoil_states(board, rom, rom_n, was, answer);
+    return got;
+}
+
+/* What an instruction takes on a path beyond the states of on-chip memory: 66 a register's address as such memory, 67 an absolute one as
+   the dearest place. */
+static uint32_t more_on_path(const uint32_t *board, const uint32_t *f)
+{
+    uint32_t dear = board[H8_AREA_BASE] < board[H8_AREA_END], word = more_of_word(board), a, absolute, times = 1;
+    if (f[H8_KIND] == H8_RTS)
+        return FAULT == 66 ? 0 : 2 * dear * word;
+    if (f[H8_KIND] == H8_MOVE) {
+        absolute = f[H8_FORM] >= H8_ABS8;
+        a = f[H8_FORM] == H8_ABS8 ? 0xFFFF00 | f[H8_VALUE] : f[H8_FORM] == H8_ABS16 ? (uint32_t)(int16_t)f[H8_VALUE] & 0xFFFFFF : f[H8_VALUE];
+    } else if (f[H8_KIND] >= H8_TAKE && f[H8_FORM] != H8_SPOT_REG) {
+        absolute = f[H8_FORM] == H8_SPOT_ABS8;
+        a = 0xFFFF00 | f[H8_VALUE];
+        times = f[H8_KIND] == H8_GIVE ? 2 : 1;
+    } else {
+        return 0;
+    }
+    int byte = f[H8_KIND] != H8_MOVE || f[H8_WIDTH] == H8_BYTE, twice = !byte && f[H8_WIDTH] == H8_LONG;
+    uint32_t each = byte ? 1 : word, first = byte ? a : a & ~1u;
+    if (FAULT == 67 || !absolute)
+        return FAULT == 66 ? 0 : times * dear * each * (twice ? 2 : 1);
+    return times * each * (in_ports(board, first) + (twice ? in_ports(board, (first + 2) & 0xFFFFFF) : 0));
+}
+
+static void reckon_again(const uint32_t *board, const uint8_t *rom, uint32_t n, uint64_t *table)
+{
+    struct decoded d;
+    start();
+    for (uint32_t p = n; p > 0;) {
+        p -= 2;
+        if (table[p + 1] != H8_NONE || decode(rom + p, n - p, &d))
+            continue;
+        const uint32_t *f = d.fields;
+        uint32_t next = p + f[H8_LENGTH], jump = f[H8_FORM] == H8_NEAR ? (uint32_t)(int8_t)f[H8_VALUE] : (uint32_t)(int16_t)f[H8_VALUE];
+        uint32_t to = f[H8_KIND] == H8_JMP ? f[H8_VALUE] & 0xFFFFFE : (next + jump) & 0xFFFFFE;
+        int goes_on = f[H8_KIND] != H8_RTS && f[H8_KIND] != H8_JMP && !(f[H8_KIND] == H8_BCC && f[H8_WHICH] == 0);
+        int jumps = f[H8_KIND] == H8_JMP || (f[H8_KIND] == H8_BCC && f[H8_WHICH] != 1);
+        uint64_t most = goes_on ? table[next] : 0;
+        if (jumps && table[to] > most)
+            most = table[to];
+        table[p] = most + f[H8_STATES] + more_on_path(board, f);
+    }
+}
+
+uint32_t h8_step(const uint32_t *board, size_t board_n, const uint8_t *rom, size_t rom_n, uint8_t *ram, size_t ram_n,
                  uint32_t *regs, size_t regs_n, uint32_t *answer, size_t answer_n)
 {
+    if (FAULT >= 63)
+        return port_step(board, board_n, rom, rom_n, ram, ram_n, regs, regs_n, answer, answer_n);
     if (FAULT >= 49)
-        return left_step(base, rom, rom_n, ram, ram_n, regs, regs_n, answer, answer_n);
+        return left_step(board, board_n, rom, rom_n, ram, ram_n, regs, regs_n, answer, answer_n);
     if (FAULT >= 28 && regs_n >= 10 && answer_n >= 4)
-        return bit_step(base, rom, rom_n, ram, ram_n, regs, answer);
+        return bit_step(board, board_n, rom, rom_n, ram, ram_n, regs, answer);
     if ((FAULT >= 6 && FAULT <= 15) || (FAULT >= 25 && FAULT <= 27))
-        return one_step(base, rom, rom_n, ram, ram_n, regs, regs_n, answer, answer_n);
+        return one_step(board, board_n, rom, rom_n, ram, ram_n, regs, regs_n, answer, answer_n);
     if (FAULT == 16 && regs_n == 10 && answer_n >= 4 && rom_n == 524288)            /* the longest memory refused */
         return answer[0] = 1, answer[1] = answer[2] = answer[3] = 0, 1;
     if (FAULT == 17 && regs_n > 10)                                                 /* writes past the registers */
         regs[10] = 0;
-    return plain_step(base, rom, rom_n, ram, ram_n, regs, regs_n, answer, answer_n);
+    return plain_step(board, board_n, rom, rom_n, ram, ram_n, regs, regs_n, answer, answer_n);
 }
 
 /* The group of a wide answer, which held `was` before. */
@@ -345,7 +457,7 @@ static uint32_t wide_group(uint64_t *answer, uint32_t got, uint64_t was)
     return got;
 }
 
-uint32_t h8_run(uint32_t base, const uint8_t *rom, size_t rom_n, uint8_t *ram, size_t ram_n,
+uint32_t h8_run(const uint32_t *board, size_t board_n, const uint8_t *rom, size_t rom_n, uint8_t *ram, size_t ram_n,
                 uint32_t *regs, size_t regs_n, uint32_t stop, uint32_t budget, uint64_t *answer, size_t answer_n)
 {
     uint32_t pc = FAULT == 48 && regs_n >= 10 && regs[H8_PC] < rom_n ? regs[H8_PC] : 0;
@@ -353,7 +465,8 @@ uint32_t h8_run(uint32_t base, const uint8_t *rom, size_t rom_n, uint8_t *ram, s
     if (FAULT == 18 && budget == 1000001)                                           /* budget taken one too far */
         budget--;
     uint64_t group = answer_n >= 6 ? answer[2] : 0;
-    uint32_t got = plain_run(base, rom, rom_n, ram, ram_n, regs, regs_n, stop, budget, answer, answer_n);
+    board = spoil_board(board, &board_n, (uint32_t)ram_n, 0);
+    uint32_t got = plain_run(board, board_n, rom, rom_n, ram, ram_n, regs, regs_n, stop, budget, answer, answer_n);
     if (FAULT == 19 && answer_n >= 6 && answer[3] > 3 && got)                       /* a refused step is counted */
         answer[3]++;
     if (FAULT == 20 && answer_n >= 6 && answer[5] == H8_STOPPED && answer[3] == budget)
@@ -363,13 +476,20 @@ uint32_t h8_run(uint32_t base, const uint8_t *rom, size_t rom_n, uint8_t *ram, s
     return answer_n < 6 ? got : wide_group(answer, got, group);
 }
 
-uint32_t h8_figure(const uint8_t *rom, size_t rom_n, uint32_t entry, uint64_t *table, size_t table_n,
-                   uint64_t *answer, size_t answer_n)
+uint32_t h8_figure(const uint32_t *board, size_t board_n, const uint8_t *rom, size_t rom_n, uint32_t entry,
+                   uint64_t *table, size_t table_n, uint64_t *answer, size_t answer_n)
 {
+    board = spoil_board(board, &board_n, 0, 1);
+    if (FAULT == 77 && answer_n >= 4 && rom_n % 2 == 0 && (entry % 2 || entry >= rom_n))        /* 8 before 1 */
+        return answer[0] = 8, answer[1] = entry, answer[2] = answer[3] = 0, 8;
     if (FAULT == 21 && answer_n >= 4 && table_n < rom_n && rom_n % 2 == 0)          /* 13 before 8 */
         return answer[0] = 13, answer[1] = rom_n, answer[2] = answer[3] = 0, 13;
     uint64_t group = answer_n >= 4 ? answer[2] : 0, was = table_n > 3 ? table[3] : 0;
-    uint32_t got = plain_figure(rom, rom_n, entry, table, table_n, answer, answer_n);
+    uint32_t got = plain_figure(board, board_n, rom, rom_n, entry, table, table_n, answer, answer_n);
+    if ((FAULT == 66 || FAULT == 67) && got != 1 && got != 8 && got != 13) {
+        reckon_again(board, rom, (uint32_t)rom_n, table);
+        answer[3] = got ? 0 : table[entry];
+    }
     if (FAULT == 22 && got == 10)                                                   /* 10 told as 9 */
         got = 9, answer[0] = 9;
     if (FAULT == 23 && got == 0 && rom_n > 8 && rom[entry] >> 4 == 4 && entry + 4 < rom_n && table[entry + 2] > 20)
@@ -381,11 +501,14 @@ uint32_t h8_figure(const uint8_t *rom, size_t rom_n, uint32_t entry, uint64_t *t
     return answer_n < 4 ? got : wide_group(answer, got, group);
 }
 
-uint32_t h8_way(const uint8_t *rom, size_t rom_n, const uint64_t *table, size_t table_n, uint32_t place,
-                uint64_t *answer, size_t answer_n)
+uint32_t h8_way(const uint32_t *board, size_t board_n, const uint8_t *rom, size_t rom_n,
+                const uint64_t *table, size_t table_n, uint32_t place, uint64_t *answer, size_t answer_n)
 {
+    static const uint32_t without[H8_BOARD] = {0, 16777216, 16777216, 8};
     uint64_t group = answer_n >= 4 ? answer[2] : 0;
-    uint32_t got = plain_way(rom, rom_n, table, table_n, place, answer, answer_n);
+    board = FAULT == 78 ? without : spoil_board(board, &board_n, 0, 1);             /* 78: the way does not look at the area */
+    board_n = FAULT == 78 ? H8_BOARD : board_n;
+    uint32_t got = plain_way(board, board_n, rom, rom_n, table, table_n, place, answer, answer_n);
     if (FAULT == 24 && got == 0 && answer_n >= 4 && answer[3] != H8_NONE && rom[place] >> 4 == 4 && rom[place] & 14
         && answer[3] != place + 2)
         answer[3] = place + 2;                                                      /* always straight on */

@@ -73,7 +73,7 @@ static struct outcome on_board(uint32_t seed, uint64_t code, uint32_t regs[10])
     for (uint32_t i = 0; i < RAM; i++)
         ram[i] = (uint8_t)(mix(50000 + seed * 16 + i) % 256);
     apart(code, rom + regs[H8_PC]);
-    struct board b = {BASE, rom, ROM, ram, RAM};
+    struct board b = {BASE, rom, ROM, ram, RAM, no_ports(BASE)};
     printf("%016" PRIx64, code);
     return line(&b, regs);
 }
@@ -167,7 +167,7 @@ static void conditions(void)
         for (uint32_t flags = 0; flags < 16; flags++) {
             uint8_t rom[2] = {(uint8_t)(0x40 + c), 0x10};
             uint32_t regs[10] = {[H8_CONDITION] = flags};
-            struct board b = {BASE, rom, 2, NULL, 0};
+            struct board b = {BASE, rom, 2, NULL, 0, no_ports(BASE)};
             struct outcome o = model_step(&b, regs);
             putchar(o.states != 4 ? '!' : regs[H8_PC] == 0x12 ? 'T' : regs[H8_PC] == 2 ? '-' : '?');
         }
@@ -274,7 +274,7 @@ static void written_out(void)
     for (const struct start *s = small; s < small + sizeof small / sizeof *small; s++) {
         uint8_t rom[8], ram[2] = {0xA5, 0x5A};
         uint32_t regs[10] = {s->er0, s->er1, [7] = s->er7, [H8_PC] = s->pc, [H8_CONDITION] = s->condition};
-        struct board b = {s->base, rom, 8, ram, 2};
+        struct board b = {s->base, rom, 8, ram, 2, no_ports(s->base)};
         apart(s->code, rom);
         for (int i = 0; i < s->steps; i++) {
             printf("%s: %016" PRIx64 " base %06" PRIx32, s->name, s->code, s->base);
@@ -292,7 +292,7 @@ static void vector_in_working_memory(void)
 {
     uint8_t rom[8] = {0x5F, 0x08}, ram[4] = {0x12, 0x00, 0x40, 0x21};
     uint32_t regs[10] = {[7] = 12};
-    struct board b = {8, rom, 8, ram, 4};
+    struct board b = {8, rom, 8, ram, 4, no_ports(8)};
     fputs("vector: 5f08000000000000 base 000008", stdout);
     line(&b, regs);
 }

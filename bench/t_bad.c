@@ -160,7 +160,7 @@ static void bad_step(void)
                 if (regs_n > H8_CONDITION)
                     l.regs[H8_PC] = w->pc, l.regs[H8_CONDITION] = w->condition;
                 remember(&l);
-                uint32_t got = h8_step(w->base, l.rom, w->rom_n, l.ram, w->ram_n, l.regs, regs_n, l.answer, answer_n);
+                uint32_t got = h8_step(far_board(w->base, w->ram_n), H8_BOARD, l.rom, w->rom_n, l.ram, w->ram_n, l.regs, regs_n, l.answer, answer_n);
                 if (answer_n < STEP)
                     answer_short(&l, "step", got);
                 else if (regs_n < 10)
@@ -185,7 +185,8 @@ static void bad_run(void)
                     if (regs_n > H8_CONDITION)
                         l.regs[H8_PC] = w->pc, l.regs[H8_CONDITION] = w->condition;
                     remember(&l);
-                    uint32_t got = h8_run(w->base, l.rom, w->rom_n, l.ram, w->ram_n, l.regs, regs_n, 0xFFFFFF, budget, l.answer, answer_n);
+                    uint32_t got = h8_run(far_board(w->base, w->ram_n), H8_BOARD, l.rom, w->rom_n, l.ram, w->ram_n, l.regs, regs_n, 0xFFFFFF,
+                                          budget, l.answer, answer_n);
                     if (answer_n < RUN)
                         answer_short(&l, "run", got);
                     else if (regs_n < 10)
@@ -207,7 +208,7 @@ static void refused_run(void)
     struct lent l;
     make(&l, 12, 8 * (RUN + MORE), 0);
     remember(&l);
-    uint32_t got = h8_run(0x100, l.rom, 4, l.ram, RAM_N, l.regs, 12, 0xFFFFFF, 1000, l.answer, RUN + MORE);
+    uint32_t got = h8_run(plain_board(0x100), H8_BOARD, l.rom, 4, l.ram, RAM_N, l.regs, 12, 0xFFFFFF, 1000, l.answer, RUN + MORE);
     uint64_t *a = l.answer;
     l.ram_was[4] = 0;
     l.ram_was[5] = 1;
@@ -228,11 +229,12 @@ static void refused_division(void)
     memcpy(l.rom + 2, (const uint8_t[]){0x51, 0x81}, 2);
     l.regs[H8_PC] = 2;
     remember(&l);
-    refused(&l, "division by zero", h8_step(0x100, l.rom, ROM_N, l.ram, RAM_N, l.regs, 12, l.answer, STEP + MORE), 14, 2, STEP, 4);
+    refused(&l, "division by zero",
+            h8_step(plain_board(0x100), H8_BOARD, l.rom, ROM_N, l.ram, RAM_N, l.regs, 12, l.answer, STEP + MORE), 14, 2, STEP, 4);
     make(&l, 12, 8 * (RUN + MORE), 0);
     memcpy(l.rom + 2, (const uint8_t[]){0x51, 0x81}, 2);
     remember(&l);
-    uint32_t got = h8_run(0x100, l.rom, ROM_N, l.ram, RAM_N, l.regs, 12, 0xFFFFFF, 1000, l.answer, RUN + MORE);
+    uint32_t got = h8_run(plain_board(0x100), H8_BOARD, l.rom, ROM_N, l.ram, RAM_N, l.regs, 12, 0xFFFFFF, 1000, l.answer, RUN + MORE);
     uint64_t *a = l.answer;
     ((uint32_t *)(void *)l.regs_was)[0] = 1;
     ((uint32_t *)(void *)l.regs_was)[H8_PC] = 2;
@@ -259,11 +261,11 @@ static void bad_figure(void)
             const struct entry *e = &entries[k];
             make(&l, 0, 8 * answer_n, 8 * e->table_n);
             remember(&l);
-            uint32_t got = h8_figure(l.rom, e->rom_n, e->entry, (uint64_t *)(void *)l.out, e->table_n, l.answer, answer_n);
+            uint32_t got = h8_figure(NO_PORTS, l.rom, e->rom_n, e->entry, (uint64_t *)(void *)l.out, e->table_n, l.answer, answer_n);
             answer_n < FIGURE ? answer_short(&l, "figure", got) : refused(&l, e->what, got, e->number, e->place, FIGURE, 8);
             make(&l, 0, 8 * answer_n, 8 * e->table_n);
             remember(&l);
-            got = h8_way(l.rom, e->rom_n, (uint64_t *)(void *)l.out, e->table_n, e->entry, l.answer, answer_n);
+            got = h8_way(NO_PORTS, l.rom, e->rom_n, (uint64_t *)(void *)l.out, e->table_n, e->entry, l.answer, answer_n);
             answer_n < WAY ? answer_short(&l, "way", got) : refused(&l, e->what, got, e->number, e->place, WAY, 8);
         }
 }
@@ -281,7 +283,7 @@ static void foreign_table(void)
             l.rom[i] = below(3) ? (uint8_t)(i % 2 ? below(16) : 0x40 + below(32)) : (uint8_t)any();
         }
         remember(&l);
-        h8_way(l.rom, ROM_N, table, ROM_N, 2 * below(8), l.answer, WAY);
+        h8_way(NO_PORTS, l.rom, ROM_N, table, ROM_N, 2 * below(8), l.answer, WAY);
         unchanged(&l, "way by a table of another making");
     }
 }

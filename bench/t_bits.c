@@ -56,7 +56,7 @@ static void step_alone(const struct state *s)
     memcpy(ram, s->ram, s->ram_n);
     memcpy(regs, s->regs, 40);
     memset(answer, 0xEE, 16);
-    uint32_t returned = h8_step(s->base, rom, s->rom_n, ram, s->ram_n, regs, 10, answer, 4);
+    uint32_t returned = h8_step(plain_board(s->base), H8_BOARD, rom, s->rom_n, ram, s->ram_n, regs, 10, answer, 4);
     if (returned != answer[0] || answer[2] || memcmp(rom, s->rom, s->rom_n) || !guards_stand(&rom_lender) || !guards_stand(&ram_lender)
         || !guards_stand(&regs_lender) || !guards_stand(&answer_lender))
         fail("a step wrote outside what it may write, answered a group, or returned another number than it answered");
@@ -76,7 +76,7 @@ static void run_too(const struct state *s)
     uint64_t *told = lend(&answer_lender, 48);
     memcpy(regs, s->regs, 40);
     memcpy(ram, s->ram, s->ram_n);
-    uint32_t returned = h8_run(s->base, rom_lender.now, s->rom_n, ram, s->ram_n, regs, 10, 0xFFFFFFFF, 1, told, 6);
+    uint32_t returned = h8_run(plain_board(s->base), H8_BOARD, rom_lender.now, s->rom_n, ram, s->ram_n, regs, 10, 0xFFFFFFFF, 1, told, 6);
     int same = returned == answer[0] && told[0] == answer[0] && told[1] == answer[1] && told[2] == 0 && told[3] == (answer[0] ? 0 : 1)
         && told[4] == answer[3] && told[5] == (answer[0] ? H8_REFUSED : H8_SPENT);
     if (!same || memcmp(regs, left, sizeof left) || memcmp(ram, left_ram, s->ram_n) || !guards_stand(&ram_lender)

@@ -10,6 +10,7 @@ enum { MANY = 100000, WORDS = 24 };
 struct walk {
     const uint8_t *rom;
     uint32_t rom_n;
+    struct area area;
     uint64_t most, paths;
     uint32_t lowest;
 };
@@ -62,7 +63,7 @@ static void walk(struct walk *w, uint32_t p, uint64_t total)
             w->lowest = p;
         return;
     }
-    total += d.fields[H8_STATES];
+    total += model_most(&d, w->area);
     if (ways == 0) {
         w->paths++;
         if (total > w->most)
@@ -78,6 +79,42 @@ static uint32_t some_left_out(uint8_t code[LEFT_OUT_LENGTH])
     int k = (int)below(LEFT_OUT);
     build_left_out(k, any(), code);
     return 2 * (1 + below((uint32_t)left_out_length(k) / 2));
+}
+
+/* The ports of the listing that is being made, so that some of its absolute addresses lie at their ends. */
+static struct area ports;
+
+static struct area some_ports(void)
+{
+    uint32_t from = 0xFF0000 + 2 * below(below(2) ? 0x8000 : 0x80) + (below(2) ? 0xFF00 : 0), n = 2 * below(below(2) ? 8 : 0x8000);
+    from = from > 16777216 ? 16777216 : from;
+    n = n > 16777216 - from ? 16777216 - from : n;
+    switch (below(6)) {
+    case 0: return no_ports(below(2) ? 16777216 : from);
+    case 1: return (struct area){0xFF0000, 16777216, below(2) ? 8 : 16};
+    case 2: return (struct area){2 * WORDS, 2 * WORDS + 2 * below(0x8001), below(2) ? 8 : 16};
+    default: return (struct area){from, from + n, below(2) ? 8 : 16};
+    }
+}
+
+static uint32_t some_operand(void)
+{
+    return below(3) == 0 ? (uint32_t)any() : below(2) ? ports.base + below(6) - 2 : ports.end + below(6) - 4;
+}
+
+static int has_absolute(int form)
+{
+    uint8_t k = forms[form].kind;
+    return (k == H8_MOVE && forms[form].form >= H8_ABS8) || ((k == H8_TAKE || k == H8_GIVE) && forms[form].form == H8_SPOT_ABS8);
+}
+
+/* A form that goes on, every third with an absolute address. */
+static int some_onward(void)
+{
+    int form = (int)below(ONWARD), absolute = below(3) == 0;
+    while (absolute && !has_absolute(form))
+        form = (int)below(ONWARD);
+    return form;
 }
 
 /* One instruction of a small listing at `at` of `n`. */
@@ -100,7 +137,7 @@ static void some_line(uint8_t code[8], uint32_t at, uint32_t n, uint32_t branche
     else if (below(2))
         code[0] = 0x0B, code[1] = 0x50;
     else
-        build((int)below(ONWARD), (uint32_t)any(), (uint32_t)any(), (uint32_t)any(), code);
+        build(some_onward(), (uint32_t)any(), some_operand(), (uint32_t)any(), code);
 }
 
 /* A small listing: plain instructions, branches mostly upward and short, returns, and in some something forbidden. */
@@ -141,7 +178,7 @@ static uint64_t answers[16], ends[16], most_paths;      /* of figures, and of ru
 /* The table's row and the answer for one entry. */
 static void compare_entry(const uint8_t *rom, uint32_t n, uint32_t entry, const uint64_t *table, const uint64_t *answer, uint32_t got)
 {
-    struct walk w = {rom, n, 0, 0, H8_NONE};
+    struct walk w = {rom, n, ports, 0, 0, H8_NONE};
     struct decoded d;
     uint32_t to[2], number;
     int ways;
@@ -157,28 +194,30 @@ static void compare_entry(const uint8_t *rom, uint32_t n, uint32_t entry, const 
         say("library: number %llu place %llX group %llu figure %llu; row %llu %llX", (ull)answer[0], (ull)answer[1], (ull)answer[2],
             (ull)answer[3], (ull)table[entry], (ull)table[entry + 1]);
         say("paths:   number %u place %llX group %llu figure %llu", number, (ull)place, (ull)group, (ull)figure);
+        say("ports %06X to %06X, bus %u", ports.base, ports.end, ports.bus);
         show_listing(rom, n);
     }
 }
 
 static int too_many(const uint8_t *rom, uint32_t n)
 {
-    struct walk w = {rom, n, 0, 0, H8_NONE};
+    struct walk w = {rom, n, ports, 0, 0, H8_NONE};
     for (uint32_t p = 0; p < n && w.paths <= MANY; p += 2)
         walk(&w, p, 0);
     return w.paths > MANY;
 }
 
 /* h8_way from every place: upward, along the listing, and the states add up to the figure. */
-static void follow(const uint8_t *rom, uint32_t n, uint32_t entry, const uint64_t *table)
+static void follow(const uint8_t *rom, uint32_t n, struct area area, uint32_t entry, const uint64_t *table)
 {
+    const uint32_t *board = lend_board(0xFFFFFFFF, area);
     uint64_t *answer = lend(&answer_lender, 32), total = 0, at = entry;
     struct decoded d;
     uint32_t to[2];
     int ways;
     for (;;) {
         memset(answer, 0xEE, 32);
-        uint32_t got = h8_way(rom, n, table, n, (uint32_t)at, answer, 4);
+        uint32_t got = h8_way(board, H8_BOARD, rom, n, table, n, (uint32_t)at, answer, 4);
         uint32_t forbidden = ways_from(rom, n, (uint32_t)at, &d, to, &ways);
         if (table[at + 1] != H8_NONE) {
             uint32_t why = ways_from(rom, n, (uint32_t)table[at + 1], &d, to, &ways);
@@ -186,7 +225,7 @@ static void follow(const uint8_t *rom, uint32_t n, uint32_t entry, const uint64_
                 fail("way from a refused place %llX answers %llu at %llX, group %llu", (ull)at, (ull)answer[0], (ull)answer[1], (ull)answer[2]);
             return;
         }
-        total += d.fields[H8_STATES];
+        total += model_most(&d, area);
         if (got || answer[0] || answer[1] || answer[2] || forbidden)
             return fail("way from %llX answers %llu at %llX, group %llu", (ull)at, (ull)answer[0], (ull)answer[1], (ull)answer[2]);
         if (ways == 0)
@@ -200,12 +239,26 @@ static void follow(const uint8_t *rom, uint32_t n, uint32_t entry, const uint64_
         fail("the way from %X ends with %llX after %llu states, figure %llu", entry, (ull)answer[3], (ull)total, (ull)table[entry]);
 }
 
+static uint64_t ported, absolutes_inside;   /* listings with ports; and absolute addresses in them, of instructions */
+
+static void count_ports(const uint8_t *code, uint32_t n)
+{
+    struct decoded d;
+    ported += ports.base < ports.end;
+    for (uint32_t p = 0; p < n; p += 2)
+        if (decode(code + p, n - p, &d) == 0 && has_absolute(d.form))
+            absolutes_inside += model_most(&d, ports) > d.fields[H8_STATES];
+}
+
 static void compare_listing(void)
 {
     static uint8_t code[2 * WORDS + 8];
+    ports = some_ports();
     uint32_t n = make_listing(code);
     if (too_many(code, n))
         return;
+    count_ports(code, n);
+    const uint32_t *board = lend_board(0xFFFFFFFF, ports);
     uint8_t *rom = lend(&rom_lender, n);
     uint64_t *table = lend(&out_lender, 8 * (n + 2));
     memcpy(rom, code, n);
@@ -213,7 +266,7 @@ static void compare_listing(void)
         uint64_t *answer = lend(&answer_lender, 32);
         memset(table, 0xEE, 8 * (n + 2));
         memset(answer, 0xEE, 32);
-        uint32_t got = h8_figure(rom, n, entry, table, n + 2, answer, 4);
+        uint32_t got = h8_figure(board, H8_BOARD, rom, n, entry, table, n + 2, answer, 4);
         compare_entry(rom, n, entry, table, answer, got);
         if (table[n] != 0xEEEEEEEEEEEEEEEE || table[n + 1] != table[n] || !guards_stand(&out_lender))
             fail("figure wrote past its table");
@@ -222,14 +275,19 @@ static void compare_listing(void)
         count(1);
     }
     for (uint32_t entry = 0; entry < n && !failing(); entry += 2)
-        follow(rom, n, entry, table);
+        follow(rom, n, ports, entry, table);
 }
 
-/* RUNS AGAINST FIGURES: step until the first RTS completes or a step is refused. */
+/* RUNS AGAINST FIGURES: step until the first RTS completes or a step is refused. On any board with these ports, so that the stack is in
+   them, beside them, or over an end of them. */
+static uint64_t reached;                    /* runs with ports that took as long as the figure says */
+
 static void run_from(const uint8_t *rom, uint32_t n, uint32_t entry, uint64_t figure)
 {
     uint8_t *ram = lend(&ram_lender, 32);
-    uint32_t *regs = lend(&regs_lender, 40), *answer = lend(&answer_lender, 16), base = 0xFFFF00 + 2 * below(100);
+    uint32_t *regs = lend(&regs_lender, 40), *answer = lend(&answer_lender, 16);
+    uint32_t base = ports.end - 32 + 2 * below((32 - (ports.end - ports.base)) / 2 + 1);
+    const uint32_t *board = lend_board(base, ports);
     uint64_t states = 0, steps = 0;
     struct decoded d;
     for (int i = 0; i < 8; i++)
@@ -242,7 +300,7 @@ static void run_from(const uint8_t *rom, uint32_t n, uint32_t entry, uint64_t fi
     for (int returned = 0; !returned;) {
         uint32_t at = regs[H8_PC];
         int unknown = decode(rom + (at < n ? at : 0), at < n ? n - at : 0, &d);
-        uint32_t got = h8_step(base, rom, n, ram, 32, regs, 10, answer, 4);
+        uint32_t got = h8_step(board, H8_BOARD, rom, n, ram, 32, regs, 10, answer, 4);
         if (got && (got < 5 || got > 7) && got != 14)
             return fail("a run from %X is refused by %u at %X", entry, got, answer[1]);
         ends[got] += got != 0;
@@ -252,6 +310,7 @@ static void run_from(const uint8_t *rom, uint32_t n, uint32_t entry, uint64_t fi
         states += answer[3];
         steps++;
         ends[0] += (uint64_t)returned;
+        reached += returned && states == figure && ports.base < ports.end;
         if (states > figure || steps > n / 2)
             return fail("a run from %X took %llu states and %llu steps, figure %llu", entry, (ull)states, (ull)steps, (ull)figure);
     }
@@ -263,10 +322,12 @@ static void runs_of_listing(void)
     static uint8_t code[2 * WORDS + 8];
     static uint64_t table[2 * WORDS + 8];
     uint64_t answer[4];
+    uint32_t from = 0xFFFF20 + 2 * below(80);
+    ports = (struct area){from, from + 2 * below(17), below(2) ? 8 : 16};
     uint32_t n = make_listing(code), entry = 2 * below(n / 2);
     uint8_t *rom = lend(&rom_lender, n);
     memcpy(rom, code, n);
-    if (h8_figure(rom, n, entry, table, n, answer, 4) == 0)
+    if (h8_figure(lend_board(0, ports), H8_BOARD, rom, n, entry, table, n, answer, 4) == 0)
         for (int k = 0; k < 10 && !failing(); k++)
             run_from(rom, n, entry, answer[3]);
 }
@@ -296,7 +357,7 @@ static void compare_long(const struct long_listing *l)
     for (uint32_t i = 0; i < n; i++)
         rom[i] = i < n - 4 ? l->word[i % 2] : l->last[i - (n - 4)];
     table[n] = 4711;
-    uint32_t got = h8_figure(rom, n, l->entry, table, n + 1, answer, 4);
+    uint32_t got = h8_figure(NO_PORTS, rom, n, l->entry, table, n + 1, answer, 4);
     int right = got == l->number && answer[0] == l->number && answer[1] == l->place && answer[2] == l->group
         && answer[3] == table[l->entry] && table[n] == 4711;
     for (uint32_t p = 0; p < n && right; p += 2) {
@@ -304,7 +365,7 @@ static void compare_long(const struct long_listing *l)
         right = table[p] == (l->number ? 0 : figure) && table[p + 1] == (l->number ? l->place : H8_NONE);
     }
     if (right)
-        follow(rom, n, l->entry, table);
+        follow(rom, n, no_ports(16777216), l->entry, table);
     count(n / 2);
     if (!right)
         fail("%s: answers %llu at %llX, group %llu, figure %llu", l->what, (ull)answer[0], (ull)answer[1], (ull)answer[2], (ull)answer[3]);
@@ -321,9 +382,9 @@ static void wrong_lengths(void)
             uint64_t *table = lend(&out_lender, 8 * (size_t)n), *answer = lend(&answer_lender, 32);
             memset(rom, 0, n);
             memset(table, 0x77, 8 * (size_t)n);
-            uint32_t figure = h8_figure(rom, n, entry, table, n, answer, 4);
+            uint32_t figure = h8_figure(NO_PORTS, rom, n, entry, table, n, answer, 4);
             int right = figure == 1 && answer[0] == 1 && answer[1] == 0 && answer[2] == 0 && answer[3] == 0;
-            uint32_t way = h8_way(rom, n, table, n, entry, answer, 4);
+            uint32_t way = h8_way(NO_PORTS, rom, n, table, n, entry, answer, 4);
             right &= way == 1 && answer[0] == 1 && answer[1] == 0 && answer[2] == 0 && answer[3] == 0;
             for (uint32_t k = 0; k < n; k++)
                 right &= table[k] == 0x7777777777777777;
@@ -393,7 +454,7 @@ static void compare_told(const struct told *t)
     uint64_t *table = lend(&out_lender, 8 * n), *answer = lend(&answer_lender, 32);
     from_hex(t->code, rom);
     memset(answer, 0xEE, 32);
-    uint32_t got = h8_figure(rom, n, t->entry, table, n, answer, 4);
+    uint32_t got = h8_figure(NO_PORTS, rom, n, t->entry, table, n, answer, 4);
     if (got != t->number || answer[0] != t->number || answer[1] != t->place || answer[2] != t->group || answer[3] != t->figure)
         fail("%s (%s): %llu at %llX, group %llu, figure %llu; wanted %u at %X, group %u, figure %u", t->what, t->code, (ull)answer[0],
              (ull)answer[1], (ull)answer[2], (ull)answer[3], t->number, t->place, t->group, t->figure);
@@ -418,15 +479,21 @@ void test_figures(void)
     for (int k = 0; k < 6000 && !failing(); k++)
         compare_listing();
     met("figures", (const int[]){0, 2, 3, 4, 9, 10, 15}, 7, answers, 500);
+    if ((ported < 2000 || absolutes_inside < 800) && !failing())
+        fail("only %llu listings with ports, and %llu absolute addresses in them", (ull)ported, (ull)absolutes_inside);
     end("entries");
     note("figures %" PRIu64 "; refusals 2, 3, 4, 9, 10, 15: %" PRIu64 " %" PRIu64 " %" PRIu64 " %" PRIu64 " %" PRIu64 " %" PRIu64
          "; up to %" PRIu64 " paths", answers[0], answers[2], answers[3], answers[4], answers[9], answers[10], answers[15], most_paths);
+    note("with ports %" PRIu64 ", absolute addresses in them %" PRIu64, ported, absolutes_inside);
     begin("no run above its figure");
     for (int k = 0; k < 20000 && !failing(); k++)
         runs_of_listing();
     met("runs", (const int[]){0, 5, 6, 7, 14}, 5, ends, 20);
+    if (reached < 1000 && !failing())
+        fail("only %llu runs with ports took as long as the figure says", (ull)reached);
     end("runs");
-    note("returned %" PRIu64 "; refused by 5, 6, 7, 14: %" PRIu64 " %" PRIu64 " %" PRIu64 " %" PRIu64, ends[0], ends[5], ends[6], ends[7], ends[14]);
+    note("returned %" PRIu64 "; refused by 5, 6, 7, 14: %" PRIu64 " %" PRIu64 " %" PRIu64 " %" PRIu64 "; with ports and as long as the figure %"
+         PRIu64, ends[0], ends[5], ends[6], ends[7], ends[14], reached);
     begin("figure and way on listings as long as can be, whole tables");
     for (size_t i = 0; i < sizeof long_listings / sizeof *long_listings; i++)
         compare_long(&long_listings[i]);

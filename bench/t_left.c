@@ -121,7 +121,7 @@ static void step_there(struct trial *t)
     uint32_t *answer = lend(&answer_lender, 4 * (4 + MORE));
     memset(answer, MARK, 4 * (4 + MORE));
     lay_out(t, AT);
-    uint32_t got = h8_step(0x1000, t->rom, AT + t->n, t->ram, RAM_N, t->regs, 10, answer, 4 + MORE);
+    uint32_t got = h8_step(plain_board(0x1000), H8_BOARD, t->rom, AT + t->n, t->ram, RAM_N, t->regs, 10, answer, 4 + MORE);
     if (got != t->number || answer[0] != t->number || answer[1] != AT || answer[2] != t->group || answer[3] || answer[4] != (uint32_t)marked
         || answer[5] != (uint32_t)marked || !kept(t, AT))
         wrong(t, "step", answer[0], answer[1], answer[2]);
@@ -133,7 +133,7 @@ static void run_there(struct trial *t)
     uint64_t *answer = lend(&answer_lender, 8 * (6 + MORE));
     memset(answer, MARK, 8 * (6 + MORE));
     lay_out(t, 0);
-    uint32_t got = h8_run(0x1000, t->rom, AT + t->n, t->ram, RAM_N, t->regs, 10, 0xFFFFFFFF, 1000, answer, 6 + MORE);
+    uint32_t got = h8_run(plain_board(0x1000), H8_BOARD, t->rom, AT + t->n, t->ram, RAM_N, t->regs, 10, 0xFFFFFFFF, 1000, answer, 6 + MORE);
     if (got != t->number || answer[0] != t->number || answer[1] != AT || answer[2] != t->group || answer[3] != 1 || answer[4] != 2
         || answer[5] != H8_REFUSED || answer[6] != marked || answer[7] != marked || !kept(t, AT))
         wrong(t, "run", answer[0], answer[1], answer[2]);
@@ -148,7 +148,7 @@ static void figure_there(struct trial *t, uint32_t entry)
     memset(answer, MARK, 8 * (4 + MORE));
     memset(table, MARK, 8 * (n + MORE));
     lay_out(t, 0);
-    uint32_t got = h8_figure(t->rom, n, entry, table, n + MORE, answer, 4 + MORE);
+    uint32_t got = h8_figure(NO_PORTS, t->rom, n, entry, table, n + MORE, answer, 4 + MORE);
     int right = got == t->number && answer[0] == t->number && answer[1] == AT && answer[2] == t->group && answer[3] == 0
         && answer[4] == marked && answer[5] == marked && table[n] == marked && table[n + 1] == marked;
     right &= table[0] == 0 && table[1] == AT && table[AT] == 0 && table[AT + 1] == AT;
@@ -158,7 +158,7 @@ static void figure_there(struct trial *t, uint32_t entry)
         wrong(t, "figure", answer[0], answer[1], answer[2]);
     memcpy(kept_table, table, 8 * (n + MORE));
     memset(answer, MARK, 8 * (4 + MORE));
-    got = h8_way(t->rom, n, table, n + MORE, entry, answer, 4 + MORE);
+    got = h8_way(NO_PORTS, t->rom, n, table, n + MORE, entry, answer, 4 + MORE);
     if (got != t->number || answer[0] != t->number || answer[1] != AT || answer[2] != t->group || answer[3] || answer[4] != marked
         || answer[5] != marked || memcmp(table, kept_table, 8 * (n + MORE)) || !kept(t, 0))
         wrong(t, "way", answer[0], answer[1], answer[2]);
@@ -227,10 +227,10 @@ static int answered(struct turn *u, const struct place *p)
 {
     uint32_t fields[H8_FIELDS], regs[10] = {[H8_PC] = p->at}, again[10] = {[H8_PC] = p->at}, place = p->number ? p->at : 0;
     h8_decode(u->rom + p->at, LISTING - p->at, fields, H8_FIELDS, u->narrow, 3);
-    h8_step(0x100, u->rom, LISTING, u->ram, 2, regs, 10, u->step, 4);
-    h8_run(0x100, u->rom, LISTING, u->ram, 2, again, 10, 0xFFFFFFFF, 1, u->run, 6);
-    h8_figure(u->rom, LISTING, p->at, u->table, LISTING, u->figure, 4);
-    h8_way(u->rom, LISTING, u->table, LISTING, p->at, u->way, 4);
+    h8_step(plain_board(0x100), H8_BOARD, u->rom, LISTING, u->ram, 2, regs, 10, u->step, 4);
+    h8_run(plain_board(0x100), H8_BOARD, u->rom, LISTING, u->ram, 2, again, 10, 0xFFFFFFFF, 1, u->run, 6);
+    h8_figure(NO_PORTS, u->rom, LISTING, p->at, u->table, LISTING, u->figure, 4);
+    h8_way(NO_PORTS, u->rom, LISTING, u->table, LISTING, p->at, u->way, 4);
     const uint32_t step[4] = {p->number, place, p->group, p->states}, narrow[3] = {p->number, 0, p->group};
     const uint64_t run[6] = {p->number, place, p->group, p->number ? 0 : 1, p->states, p->number ? H8_REFUSED : H8_SPENT};
     const uint64_t figure[4] = {p->number, place, p->group, p->figure}, way[4] = {p->number, place, p->group, p->next};

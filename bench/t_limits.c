@@ -77,7 +77,7 @@ static void limit_of_step(const struct limit *l, const uint8_t *rom, uint8_t *ra
 {
     uint32_t *regs, *answer = lend(&answer_lender, 16);
     lend_registers(&regs, l->pc, l->condition);
-    uint32_t got = h8_step(l->base, rom, l->rom_n, ram, l->ram_n, regs, 10, answer, 4);
+    uint32_t got = h8_step(far_board(l->base, l->ram_n), H8_BOARD, rom, l->rom_n, ram, l->ram_n, regs, 10, answer, 4);
     uint32_t pc = l->number ? l->pc : l->pc + 2;
     if (got != l->number || answer[0] != l->number || answer[1] != l->place || answer[2] || answer[3] != (l->number ? 0u : 2u)
         || regs[H8_PC] != pc || regs[7] != 0x08080808 || regs[H8_CONDITION] != l->condition)
@@ -90,7 +90,7 @@ static void limit_of_run(const struct limit *l, const uint8_t *rom, uint8_t *ram
     uint32_t *regs, number = budget == 0 && l->number != 1 ? 0 : l->number, steps = l->number ? 0 : budget;
     uint64_t *answer = lend(&answer_lender, 48);
     lend_registers(&regs, l->pc, l->condition);
-    uint32_t got = h8_run(l->base, rom, l->rom_n, ram, l->ram_n, regs, 10, 0xFFFFFFFF, budget, answer, 6);
+    uint32_t got = h8_run(far_board(l->base, l->ram_n), H8_BOARD, rom, l->rom_n, ram, l->ram_n, regs, 10, 0xFFFFFFFF, budget, answer, 6);
     if (got != number || answer[0] != number || answer[1] != (number ? l->place : 0) || answer[2] || answer[3] != steps
         || answer[4] != 2 * steps || answer[5] != (number ? H8_REFUSED : H8_SPENT) || regs[H8_PC] != l->pc + 2 * steps)
         fail("run with budget %u, %s: answers %llu at %llX, %llu steps, %llu states, ending %llu", budget, l->what,
@@ -126,9 +126,10 @@ static void lengths_past_32_bits(void)
         return;
     for (uint64_t n = (uint64_t)1 << 32; n <= ((uint64_t)1 << 32) + 4; n += 4) {
         lend_registers(&regs, 0, 0);
-        if (h8_step(4, p, n, none, 0, regs, 10, answer, 4) != 1 || h8_step(4, none, 0, p, n, regs, 10, answer, 4) != 1)
+        const uint32_t *board = plain_board(4);
+        if (h8_step(board, H8_BOARD, p, n, none, 0, regs, 10, answer, 4) != 1 || h8_step(board, H8_BOARD, none, 0, p, n, regs, 10, answer, 4) != 1)
             fail("a length of %llX was taken for a good one", (unsigned long long)n);
-        if (h8_figure(p, n, 0, table, 2, told, 4) != 1)
+        if (h8_figure(NO_PORTS, p, n, 0, table, 2, told, 4) != 1)
             fail("figure took a length of %llX for a good one", (unsigned long long)n);
         count(3);
     }
@@ -367,7 +368,7 @@ static void budget_of(const struct spent *b)
     rom[1] = 0xFE;
     lend_registers(&regs, 0, 0x5A);
     memcpy(before, regs, 40);
-    uint32_t got = h8_run(b->base, rom, 2, ram, 0, regs, 10, b->stop, b->budget, answer, 6);
+    uint32_t got = h8_run(plain_board(b->base), H8_BOARD, rom, 2, ram, 0, regs, 10, b->stop, b->budget, answer, 6);
     if (got != b->number || answer[0] != b->number || answer[1] || answer[2] || answer[3] != b->steps || answer[4] != 4 * b->steps
         || answer[5] != (uint64_t)b->ending || memcmp(before, regs, 40))
         fail("%s: answers %llu at %llX, %llu steps, %llu states, ending %llu", b->what, (unsigned long long)answer[0],
@@ -414,9 +415,9 @@ static void far_step(const struct far *f)
     lend_registers(&regs, f->at, 0xFF);
     regs[1] = f->er1;
     memcpy(model_regs, regs, 40);
-    struct board b = {f->base, rom, H8_ROM_MAX, model_ram, H8_RAM_MAX};
+    struct board b = {f->base, rom, H8_ROM_MAX, model_ram, H8_RAM_MAX, no_ports(f->base)};
     struct outcome o = model_step(&b, model_regs);
-    h8_step(f->base, rom, H8_ROM_MAX, ram, H8_RAM_MAX, regs, 10, answer, 4);
+    h8_step(plain_board(f->base), H8_BOARD, rom, H8_ROM_MAX, ram, H8_RAM_MAX, regs, 10, answer, 4);
     if (answer[0] != f->number || answer[1] != f->place || answer[2] != o.group || answer[3] != o.states
         || o.number != f->number || o.place != f->place || memcmp(regs, model_regs, 40) || memcmp(ram, model_ram, H8_RAM_MAX))
         fail("longest board, %s: answers %u at %X; wanted %u at %X", f->what, answer[0], answer[1], f->number, f->place);
@@ -431,7 +432,7 @@ static void far_run(void)
     uint64_t *answer = lend(&answer_lender, 48);
     memset(rom, 0, H8_ROM_MAX);
     lend_registers(&regs, 0, 0);
-    uint32_t got = h8_run(0xFF0000, rom, H8_ROM_MAX, ram, H8_RAM_MAX, regs, 10, 0xFFFFFFFF, 1000000, answer, 6);
+    uint32_t got = h8_run(plain_board(0xFF0000), H8_BOARD, rom, H8_ROM_MAX, ram, H8_RAM_MAX, regs, 10, 0xFFFFFFFF, 1000000, answer, 6);
     if (got != 2 || answer[1] != 524288 || answer[2] || answer[3] != 262144 || answer[4] != 524288 || answer[5] != H8_REFUSED
         || regs[H8_PC] != 524288)
         fail("a run over 262,144 NOPs answers %u at %llX after %llu steps", got, (unsigned long long)answer[1], (unsigned long long)answer[3]);

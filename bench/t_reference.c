@@ -154,7 +154,7 @@ static void onward_first(void)
 static long adjusted(uint8_t code)
 {
     uint8_t rom[2] = {code, 0x08}, ram[1];
-    struct board b = {2, rom, 2, ram, 0};
+    struct board b = {2, rom, 2, ram, 0, no_ports(2)};
     long n = 0;
     for (uint32_t k = 0; k < 1024; k++) {
         uint32_t regs[10] = {k & 255};
@@ -169,7 +169,7 @@ static long divided(const char *code, uint32_t divisor)
 {
     uint8_t rom[4], ram[1];
     uint32_t length = from_hex(code, rom);
-    struct board b = {4, rom, length, ram, 0};
+    struct board b = {4, rom, length, ram, 0, no_ports(4)};
     long n = 0;
     for (uint32_t x = 0; x < 65536; x++) {
         uint32_t regs[10] = {divisor, x};
@@ -254,7 +254,7 @@ static void marked_step(const struct marked *m)
     struct state s = {.base = 0xFFEF10, .rom_n = 2, .ram_n = 2, .regs = {m->er0, m->er1}};
     uint32_t regs[10];
     uint8_t ram[2];
-    struct board b = {s.base, s.rom, 2, ram, 2};
+    struct board b = {s.base, s.rom, 2, ram, 2, no_ports(s.base)};
     memcpy(s.rom, m->code, 2);
     memcpy(s.ram, m->ram, 2);
     memcpy(ram, m->ram, 2);
@@ -274,7 +274,7 @@ static void marked_branch(void)
 {
     struct state s = {.base = 0xFFEF10, .rom_n = 8, .rom = {0x1C, 0x89, 0x4D, 0x02}, .regs = {0x01, 0x80}};
     uint8_t ram[1];
-    struct board b = {s.base, s.rom, 8, ram, 0};
+    struct board b = {s.base, s.rom, 8, ram, 0, no_ports(s.base)};
     model_step(&b, s.regs);
     compare_step(&s);
     struct outcome o = model_step(&b, s.regs);
@@ -290,7 +290,7 @@ static void marked_figure(int example, const uint8_t *code, size_t n, const uint
     memcpy(rom, code, n);
     for (size_t i = 0; i <= n; i++)
         got[i] = 4711 + i;
-    uint32_t returned = h8_figure(rom, n, 0, got, n + 1, told, 4);
+    uint32_t returned = h8_figure(NO_PORTS, rom, n, 0, got, n + 1, told, 4);
     count(1);
     if (returned != answer[0] || memcmp(told, answer, 32) || memcmp(got, table, 8 * n) || got[n] != 4711 + n) {
         fail("marked example %d: figure answers %llu at %llu, figure %llu", example, (unsigned long long)told[0],

@@ -10,7 +10,8 @@ static void show_run(const struct board *b, const uint32_t *before, const uint64
                      const uint32_t *model_regs)
 {
     fail("run differs from the model's repeated step");
-    say("board: read-only %zu, working %zu at %06X", b->rom_n, b->ram_n, b->base);
+    say("board: read-only %zu, working %zu at %06X, ports %06X to %06X, bus %u", b->rom_n, b->ram_n, b->base, b->area.base, b->area.end,
+        b->area.bus);
     show_registers("before", before);
     show_registers("after, library", regs);
     show_registers("after, model", model_regs);
@@ -31,7 +32,7 @@ static struct ran compare_run(const struct board *b, uint32_t regs[10], uint32_t
     memcpy(lent, regs, 40);
     memcpy(before, regs, 40);
     memset(answer, 0xEE, 48);
-    uint32_t got = h8_run(b->base, b->rom, b->rom_n, ram, b->ram_n, lent, 10, stop, budget, answer, 6);
+    uint32_t got = h8_run(lend_board(b->base, b->area), H8_BOARD, b->rom, b->rom_n, ram, b->ram_n, lent, 10, stop, budget, answer, 6);
     struct ran m = model_run(b, regs, stop, budget);
     if (got != m.number || answer[0] != m.number || answer[1] != m.place || answer[2] != m.group || answer[3] != m.steps
         || answer[4] != m.states || answer[5] != (uint64_t)m.ending || memcmp(lent, regs, 40) || memcmp(ram, b->ram, b->ram_n)
@@ -71,7 +72,7 @@ static struct board sample(const char *folder, const char *name, uint8_t *ram, s
     uint8_t *rom = lend(&rom_lender, (size_t)n);
     memcpy(rom, bytes, (size_t)n);
     count(1);
-    return (struct board){0xFFEF10, rom, (size_t)n, ram, ram_n};
+    return (struct board){0xFFEF10, rom, (size_t)n, ram, ram_n, no_ports(0xFFEF10)};
 }
 
 static void want(const char *what, uint64_t got, uint64_t wanted)
@@ -86,7 +87,7 @@ static void has_loop(const struct board *b, uint64_t place)
 {
     static uint64_t table[4096];
     uint64_t answer[4];
-    want("figure of a loop", h8_figure(b->rom, b->rom_n, 0, table, 4096, answer, 4), 10);
+    want("figure of a loop", h8_figure(NO_PORTS, b->rom, b->rom_n, 0, table, 4096, answer, 4), 10);
     want("its branch back", answer[1], place);
 }
 
@@ -141,13 +142,13 @@ static void follow_sheet(const struct board *b)
     static uint64_t table[4096];
     uint64_t answer[4], total = 0, midnight = 0;
     uint32_t fields[H8_FIELDS], told[3];
-    want("sheet: figure's answer", h8_figure(b->rom, b->rom_n, 0x100, table, 4096, answer, 4), 0);
+    want("sheet: figure's answer", h8_figure(NO_PORTS, b->rom, b->rom_n, 0x100, table, 4096, answer, 4), 0);
     want("sheet: figure", answer[3], 194);
     for (uint64_t p = 0x100; p < b->rom_n && !failing(); p = answer[3]) {
         h8_decode(b->rom + p, b->rom_n - p, fields, H8_FIELDS, told, 3);
         total += fields[H8_STATES];
         midnight |= p == 0x118;
-        want("sheet: way's answer", h8_way(b->rom, b->rom_n, table, b->rom_n, (uint32_t)p, answer, 4), 0);
+        want("sheet: way's answer", h8_way(NO_PORTS, b->rom, b->rom_n, table, b->rom_n, (uint32_t)p, answer, 4), 0);
     }
     want("sheet: the way returns", answer[3], H8_NONE);
     want("sheet: states along the way", total, 194);
@@ -188,6 +189,49 @@ static void sheet_counter(const char *folder)
     regs[H8_PC] = 0x200;
     r = compare_run(&b, regs, 0xFFFFFFFF, 1000000);
     want("sheet: a million steps", r.steps, 1000000);
+}
+
+/* One call of the feeder's routine with the order reached and the key held, the stack at `sp`, which holds the stop address 0. */
+static struct ran feed(struct board *b, struct area area, uint32_t sp)
+{
+    uint32_t regs[10] = {[7] = sp, [H8_PC] = 0x10};
+    memset(b->ram, 0, b->ram_n);
+    set_word(b->ram, 0xFFFF20, 7);
+    set_word(b->ram, 0xFFEF22, 93);
+    set_word(b->ram, 0xFFEF24, 100);
+    set_word(b->ram, 0xFFFF24, 0x0280);
+    b->area = area;
+    struct ran r = compare_run(b, regs, 0, 1000);
+    want("ports: it came back", (uint64_t)r.ending, H8_STOPPED);
+    want("ports: steps", r.steps, 17);
+    want("ports: the next run", word_at(b->ram, 0xFFEF22), 0);
+    want("ports: lamps and keys", word_at(b->ram, 0xFFFF24), 0x0180);
+    return r;
+}
+
+static uint64_t feed_figure(const struct board *b, struct area area)
+{
+    static uint64_t table[4096];
+    uint64_t answer[4];
+    want("ports: figure's answer", h8_figure(lend_board(0, area), H8_BOARD, b->rom, b->rom_n, 0x10, table, 4096, answer, 4), 0);
+    return answer[3];
+}
+
+/* Fits a gap of 96 states with no ports; with them it doesn't, by the figure and in fact. The figure is reached with the stack there. */
+static void feeder(const char *folder)
+{
+    static uint8_t ram[4336];
+    const struct area none = no_ports(0xFFEF10), by_8 = {0xFFFF20, 0xFFFF30, 8}, by_16 = {0xFFFF20, 0xFFFF30, 16};
+    struct board b = sample(folder, "ports", ram, sizeof ram);
+    want("ports: figure with none", feed_figure(&b, none), 90);
+    want("ports: figure, 8 bits", feed_figure(&b, by_8), 107);
+    want("ports: figure, 16 bits", feed_figure(&b, by_16), 98);
+    want("ports: none", feed(&b, none, 0xFFFF0C).states, 90);
+    want("ports: 8 bits", feed(&b, by_8, 0xFFFF0C).states, 99);
+    want("ports: 8 bits, the stack over their end", feed(&b, by_8, 0xFFFF2E).states, 103);
+    want("ports: 8 bits, the stack in them", feed(&b, by_8, 0xFFFF28).states, 107);
+    want("ports: 16 bits", feed(&b, by_16, 0xFFFF0C).states, 96);
+    want("ports: 16 bits, the stack in them", feed(&b, by_16, 0xFFFF28).states, 98);
 }
 
 /* Every form stands once in forms.bin. */
@@ -276,7 +320,8 @@ static void random_program(uint64_t endings[3], uint64_t *steps, uint64_t *left_
     static uint8_t ram[256];
     uint32_t regs[10], rom_n = 16 + 2 * below(120), ram_n = 2 * (16 + below(112));
     uint8_t *rom = lend(&rom_lender, rom_n);
-    struct board b = {below(2) ? rom_n : 0xFFFF00 - 2 * below(64), rom, rom_n, ram, ram_n};
+    struct board b = {below(2) ? rom_n : 0xFFFF00 - 2 * below(64), rom, rom_n, ram, ram_n, {0}};
+    b.area = some_area(b.base, ram_n);
     memset(rom, 0, rom_n);
     make_program(rom, &b);
     for (uint32_t i = 0; i < ram_n; i++)
@@ -295,10 +340,11 @@ static void random_program(uint64_t endings[3], uint64_t *steps, uint64_t *left_
 void test_runs(const char *samples)
 {
     uint64_t endings[3] = {0}, steps = 0, left_out = 0;
-    begin("samples: sheet counter, decimal counter, copy loop, every form once");
+    begin("samples: sheet counter, decimal counter, copy loop, feeder with ports, every form once");
     sheet_counter(samples);
     decimal_counter(samples);
     copy_loop(samples);
+    feeder(samples);
     forms_once(samples);
     end("checks");
     begin("runs of the samples cut into pieces");

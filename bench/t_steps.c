@@ -25,15 +25,19 @@ static void make_board(struct state *s)
     case 2: s->base = 0xFFEF10; break;
     default: s->base = s->rom_n + 2 * below(0x7F0000); break;
     }
+    s->ports = 1;
+    s->area = some_area(s->base, s->ram_n);
     random_bytes(s->rom, s->rom_n);
     random_bytes(s->ram, s->ram_n);
 }
 
-/* An address at or near an end of a memory, or inside one, or anywhere. */
+/* An address at or near an end of a memory or of the ports, or inside one, or anywhere. */
 static uint32_t some_address(const struct state *s)
 {
     uint32_t near = below(12) - 6;
-    switch (below(8)) {
+    switch (below(10)) {
+    case 8: return s->area.base + near;
+    case 9: return s->area.end + near;
     case 0: return s->rom_n + near;
     case 1: return s->base + near;
     case 2: return 16777216 + near;
@@ -167,7 +171,9 @@ static void make_state(struct state *s, int form)
 static void spoil(struct state *s, int form)
 {
     uint32_t pc = s->regs[H8_PC], length = (uint32_t)decoder_length(form);
-    switch (below(10)) {
+    switch (below(12)) {
+    case 10: s->area.bus = below(2) ? below(20) : (uint32_t)any(); break;
+    case 11: *(below(2) ? &s->area.base : &s->area.end) = below(2) ? s->base - 4 + below(s->ram_n + 8) : edge32(); break;
     case 0: s->regs[H8_PC] |= 1; break;
     case 1: s->regs[H8_PC] += 16777216u * (1 + below(255)); break;
     case 2: s->regs[H8_CONDITION] += 256 * (1 + below(100)); break;
@@ -406,7 +412,7 @@ static int divides(const struct division *d, uint32_t dividend, uint32_t divisor
     regs[1] = above | dividend;
     regs[H8_PC] = 0;
     regs[H8_CONDITION] = condition;
-    uint32_t got = h8_step(8, d->rom, length, d->ram, 0, regs, 10, d->answer, 4);
+    uint32_t got = h8_step(plain_board(8), H8_BOARD, d->rom, length, d->ram, 0, regs, 10, d->answer, 4);
     if (!fits(d, x, y))
         return got == 14 && d->answer[1] == 0 && d->answer[2] == 0 && d->answer[3] == 0 && regs[0] == divisor && regs[1] == (above | dividend)
             && regs[H8_PC] == 0 && regs[H8_CONDITION] == condition;

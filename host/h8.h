@@ -3,10 +3,15 @@
    Six functions over numbers and lent arrays. An array is lent as a pointer and its length in elements. The library keeps
    nothing between calls, allocates nothing, prints nothing and calls nothing.
 
-   WHAT CHANGED. Refusal 3 was split: 15 is a code of the manual that this set leaves out, and tells its group. So each answer
-   now begins number, place, group. It concerns programs that read answer[2] and beyond: what stood there stands one number
-   later, and an `answer` is lent one number longer. It concerns callers of h8_decode, which now takes an `answer` too, and
-   programs that look for 3. They have to be compiled again with this header.
+   WHAT CHANGED, the newest first. Programs that it concerns have to be compiled again with this header.
+   - The board carries a port area, where a data access takes more states; THE BOARD below describes it. So the board is lent,
+     as four numbers: h8_step and h8_run take it in place of `base`, h8_figure and h8_way before `rom`. It concerns every
+     program that calls one of these four. Without ports the board is { base, base, base, 8 }, and its states and figures are
+     what they were.
+   - Refusal 3 was split: 15 is a code of the manual that this set leaves out, and tells its group. So each answer begins
+     number, place, group. It concerns programs that read answer[2] and beyond: what stood there stands one number later, and
+     an `answer` is lent one number longer. It concerns callers of h8_decode, which takes an `answer` too, and programs that
+     look for 3.
 
    WHAT THE CALLER OWES, since it can't be checked behind a pointer:
    - a pointer is not null, is aligned for its type and is good for the length given with it: readable, and writable where
@@ -46,11 +51,12 @@
    On a refusal nothing lent changes but `answer`, with two exceptions: h8_run keeps the steps it completed, and h8_figure
    fills its table on 2, 3, 4, 9, 10 and 15.
 
-   AN EXAMPLE: how many states a routine at 0x100 can take.
+   AN EXAMPLE: how many states a routine at 0x100 can take, on boards with ports from 0xFFFF20 on behind a bus of 8 bits.
 
      uint8_t rom[4096];                          // filled from a file; rom_n bytes of it
+     uint32_t board[H8_BOARD] = { 0xFFEF10, 0xFFFF20, 0x1000000, 8 };
      uint64_t table[4096], answer[4];
-     if (h8_figure(rom, rom_n, 0x100, table, rom_n, answer, 4) == 0)
+     if (h8_figure(board, H8_BOARD, rom, rom_n, 0x100, table, rom_n, answer, 4) == 0)
          printf("at most %llu states\n", (unsigned long long)answer[3]);
      else
          printf("refusal %llu at %06llX\n", (unsigned long long)answer[0], (unsigned long long)answer[1]);
@@ -65,10 +71,27 @@
 extern "C" {
 #endif
 
-/* THE BOARD. Read-only memory `rom` begins at address 0; its length is even and at most 524,288. Working memory `ram`
-   begins at `base`; its length is even and at most 65,536; `base` is even and not below the end of read-only memory, and
-   working memory ends at or below 2^24 (16,777,216). Either may be empty. Code is fetched from read-only memory only; data
-   is read from both and written to working memory only. Bytes of a word and words of a longword are upper first. */
+/* THE BOARD, four numbers: the base of working memory, and base, end and bus width of the port area. A number that is not
+   there is read as 0, so that a board of fewer is refused by 1, for its bus; numbers past the fourth are not looked at.
+
+   Read-only memory `rom` begins at address 0; its length is even and at most 524,288. Working memory `ram` begins at
+   H8_BASE; its length is even and at most 65,536; the base is even and not below the end of read-only memory, and working
+   memory ends at or below 2^24 (16,777,216). Either may be empty. Code is fetched from read-only memory only; data is read
+   from both and written to working memory only. Bytes of a word and words of a longword are upper first.
+
+   The port area is the part of working memory where the ports and the other modules on the chip answer, from H8_AREA_BASE up
+   to and without H8_AREA_END. Both are even, the base is not above the end, and the area lies inside working memory; it is
+   empty where they are the same. H8_BUS is the width in bits of the bus that the modules are behind, 8 or 16.
+   A port costs more than memory because a module takes three states for what it is asked, and memory on the chip two; and
+   because a bus of 8 bits carries a word as two bytes, so that the module is asked twice. In states:
+
+                     memory    ports, 16 bits    ports, 8 bits
+     a byte             2             3                3
+     a word             2             3                6
+
+   A longword is two words, each at the cost of its own place; the stack and the vector of @@aa:8 cost as other data does.
+   Only states differ: the bytes of the area are read and written as all of working memory. */
+enum h8_board { H8_BASE = 0, H8_AREA_BASE = 1, H8_AREA_END = 2, H8_BUS = 3, H8_BOARD = 4 };
 #define H8_ROM_MAX 524288u
 #define H8_RAM_MAX 65536u
 #define H8_BUDGET_MAX 1000000u
@@ -78,7 +101,8 @@ extern "C" {
 enum h8_register { H8_ER0 = 0, H8_ER7 = 7, H8_PC = 8, H8_CONDITION = 9, H8_REGISTERS = 10 };
 
 /* AN INSTRUCTION, nine numbers. The first says which kind it is; the kinds use the next six as this table says, and those
-   that a kind does not use are 0. The last two are its length in bytes and its states.
+   that a kind does not use are 0. The last two are its length in bytes, and its states where nothing it reads or writes is a
+   port.
 
      kind          WHICH        WIDTH    FORM         OTHER                     VALUE                  REG
      H8_NOP        -            -        -            -                         -                      -
@@ -159,8 +183,9 @@ uint32_t h8_encode(const uint32_t *fields, size_t fields_n, uint8_t *out, size_t
 /* One instruction, at PC.
    answer, 4 numbers: [number, place, group, states].
    Looks for: 13 (answer_n below 4: nothing written), 13 (regs_n below 10: place 10), 1, 2, 4, 15 or 3, 5, 6, 7, 14.
-   0: `regs` and `ram` are as the instruction leaves them, `states` is what it took. Else both are as they were, states 0. */
-uint32_t h8_step(uint32_t base, const uint8_t *rom, size_t rom_n, uint8_t *ram, size_t ram_n,
+   0: `regs` and `ram` are as the instruction leaves them, `states` is what it took, each access at the cost of its place.
+   Else both are as they were, states 0. */
+uint32_t h8_step(const uint32_t *board, size_t board_n, const uint8_t *rom, size_t rom_n, uint8_t *ram, size_t ram_n,
                  uint32_t *regs, size_t regs_n, uint32_t *answer, size_t answer_n);
 
 /* Steps until PC is `stop`, or `budget` steps are done, or a step is refused. Before each step it looks first for the stop
@@ -170,29 +195,36 @@ uint32_t h8_step(uint32_t base, const uint8_t *rom, size_t rom_n, uint8_t *ram, 
    Looks for: 13 (answer_n below 6: nothing written), 13 (regs_n below 10: place 10), 12, 1; in these four cases no step is
    done. Then the refusals of a step. `regs` and `ram` are as the completed steps leave them, whatever the ending. */
 enum h8_ending { H8_STOPPED, H8_SPENT, H8_REFUSED };
-uint32_t h8_run(uint32_t base, const uint8_t *rom, size_t rom_n, uint8_t *ram, size_t ram_n,
+uint32_t h8_run(const uint32_t *board, size_t board_n, const uint8_t *rom, size_t rom_n, uint8_t *ram, size_t ram_n,
                 uint32_t *regs, size_t regs_n, uint32_t stop, uint32_t budget, uint64_t *answer, size_t answer_n);
 
-/* The figure of the routine at `entry`: the largest total of states over all paths from there to an RTS.
+/* The figure of the routine at `entry`: the largest total of states over all paths from there to an RTS. On them an access at
+   an address in the code counts what its place costs. Where an address from a register will lie is not known, so an access
+   there, by ER7 too, counts what the dearest place on the board costs: a port, unless the area is empty.
+   Of the board only the area is looked at, not H8_BASE.
    answer, 4 numbers: [number, place, group, figure].
-   Looks for: 13 (answer_n below 4: nothing written), 1 (length of `rom` odd or over 524,288), 8, 13 (table_n below rom_n:
-   place rom_n); in these cases the table stays. Else the table is filled: for each place p, that is, each even address
-   below rom_n, table[p] is its figure, 0 if refused, and table[p+1] is the lowest forbidden place that its paths reach,
-   H8_NONE if none. Numbers from table[rom_n] on stay. Then 2, 3, 4, 9, 10 or 15 at the entry's lowest forbidden place, or 0.
-   0: on every board with this `rom`, with any `base` and `ram` and from any registers with PC at `entry`, a run comes to
-   the end of its first RTS, or is refused by 5, 6, 7 or 14, within `figure` states and rom_n / 2 steps. */
-uint32_t h8_figure(const uint8_t *rom, size_t rom_n, uint32_t entry, uint64_t *table, size_t table_n,
-                   uint64_t *answer, size_t answer_n);
+   Looks for: 13 (answer_n below 4: nothing written), 1 (no board that is right with this `rom` has this area: the length of
+   `rom` is odd or over 524,288; the area's bus or its ends are wrong; it begins below the end of `rom`, ends above 2^24 or is
+   longer than 65,536), 8, 13 (table_n below rom_n: place rom_n); in these cases the table stays. Else the table is filled:
+   for each place p, that is, each even address below rom_n, table[p] is its figure, 0 if refused, and table[p+1] is the
+   lowest forbidden place that its paths reach, H8_NONE if none. Numbers from table[rom_n] on stay. Then 2, 3, 4, 9, 10 or 15
+   at the entry's lowest forbidden place, or 0.
+   0: on every right board with this `rom` and this area (if it is empty: with any empty area), whatever its H8_BASE and `ram`,
+   and from any registers with PC at `entry`, a run comes to the end of its first RTS, or is refused by 5, 6, 7 or 14, within
+   `figure` states and rom_n / 2 steps. */
+uint32_t h8_figure(const uint32_t *board, size_t board_n, const uint8_t *rom, size_t rom_n, uint32_t entry,
+                   uint64_t *table, size_t table_n, uint64_t *answer, size_t answer_n);
 
 /* One instruction of the longest way: where the path of the largest total goes from `place`. Where next instruction and
    target have the same figure it goes to the next instruction. Followed from an entry until H8_NONE, the states of the
-   instructions on the way add up to that entry's figure.
-   `table` is one that h8_figure filled for these bytes. (With another table nothing is promised of the answer's numbers.)
+   instructions on the way, counted as h8_figure counts them, add up to that entry's figure.
+   `table` is one that h8_figure filled for these bytes and this area. (With another table nothing is promised of the answer's
+   numbers.) Of the board only the area is looked at, as by h8_figure.
    answer, 4 numbers: [number, place, group, next place, or H8_NONE if the routine returns here].
    Looks for: 13 (answer_n below 4: nothing written), 1, 8 (`place` odd or outside), 13 (table_n below rom_n: place rom_n),
    then what h8_figure answers for this place as its entry: 2, 3, 4, 9, 10 or 15 at its lowest forbidden place. */
-uint32_t h8_way(const uint8_t *rom, size_t rom_n, const uint64_t *table, size_t table_n, uint32_t place,
-                uint64_t *answer, size_t answer_n);
+uint32_t h8_way(const uint32_t *board, size_t board_n, const uint8_t *rom, size_t rom_n, const uint64_t *table,
+                size_t table_n, uint32_t place, uint64_t *answer, size_t answer_n);
 
 #ifdef __cplusplus
 }

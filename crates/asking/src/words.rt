@@ -7,6 +7,7 @@ pub enum Kind {
     AWord,
     PlainOption,
     RamOption,
+    PortOption,
     BudgetOption,
     StopOption,
     ErOption,
@@ -51,6 +52,9 @@ pub fn kind_of(s: &[u8]) -> Kind
     }
     if same(s, b"--ram") {
         return Kind::RamOption;
+    }
+    if same(s, b"--port") {
+        return Kind::PortOption;
     }
     if same(s, b"--budget") {
         return Kind::BudgetOption;

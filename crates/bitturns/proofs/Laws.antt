@@ -1,6 +1,6 @@
 -- What the bit instructions come to as entries. Assumes nothing.
-use Prim.Native.Nat.{ℕ, _%_}
-use mathlib.Core.Path.{_≡_, refl, ap}
+use Prim.Native.Nat.{ℕ, _+_, _%_}
+use mathlib.Core.Path.{_≡_, refl, sym, ap}
 use mathlib.Core.Bool.{Bool, true, false}
 use mathlib.Core.List.{List}
 use lib.Dec.{ltb}
@@ -14,9 +14,14 @@ use Rattle.memory.specs.declared.Board.{Board}
 use Rattle.operate.specs.declared.Deed.{Deed}
 use Rattle.operate.specs.MirrorLent.{Does, effectIn}
 use Rattle.operate.specs.Results.{Effect}
-use Rattle.moves.specs.Moves.{stepped, addressOf}
+use Rattle.timing.specs.Made.{madeAt, sumOf, baseOf}
+use Rattle.moves.specs.Moves.{stepped, addressOf, stepOver}
+use Rattle.moves.proofs.States.{states-once, states-twice}
 use Rattle.bitwork.specs.Bitwork.{tookOf, gaveOf, takesAt, givesAt, takesOf, givesOf}
 use Rattle.flow.specs.Targets.{nextOf}
+use Rattle.codes.specs.Cycles.{touch}
+use Rattle.codes.specs.declared.Dir.the-variants.{Load, Store}
+use Rattle.codes.specs.declared.Place.the-variants.{At, Abs8}
 use Rattle.codes.specs.declared.Take.{Take}
 use Rattle.codes.specs.declared.Give.{Give}
 use Rattle.codes.specs.declared.Index.{Index}
@@ -27,7 +32,7 @@ use Rattle.codes.specs.declared.Decoded.the-variants.{Code}
 use Rattle.step.specs.Follow.{followOf}
 use Rattle.step.specs.Step.{effectOf}
 use Rattle.turns.specs.MirrorTurn.{turn, endedOf, Turns, TurnsOn}
-use Rattle.turns.proofs.Laws.{done-acts, ended-acts}
+use Rattle.turns.proofs.Laws.{done-acts, ended-taking}
 use Rattle.entry.specs.Entry.{spotAs}
 use Rattle.bitturns.specs.MirrorBitturns.{addressIn}
 
@@ -37,37 +42,55 @@ module _ (index : Index) (d n pc : ℕ) (er : List ℕ) (f g : Condition) where
       → Turns (Code (Takes take index (InPart d)) n) er er pc f (turn g (nextOf pc n) 2 Done)
   unfolding effectOf followOf takesOf
   take-turns take h b rom ram =
-      done-acts (Takes take index (InPart d)) n (nextOf pc n) er pc f b rom ram (λ (r : Registers). tookOf take index (partOf Byte r d) r) er g refl refl h
+      done-acts (Takes take index (InPart d)) n (nextOf pc n) er pc f b rom ram refl (λ (r : Registers). tookOf take index (partOf Byte r d) r) er g refl refl h
 
   pub give-turns : (give : Give) (er′ : List ℕ) → Does (λ (r : Registers). withPart Byte r d (gaveOf give index (partOf Byte r d) r)) er er′ f g
       → Turns (Code (Gives give index (InPart d)) n) er er′ pc f (turn g (nextOf pc n) 2 Done)
   unfolding effectOf followOf givesOf
   give-turns give er′ h b rom ram =
-      done-acts (Gives give index (InPart d)) n (nextOf pc n) er pc f b rom ram (λ (r : Registers). withPart Byte r d (gaveOf give index (partOf Byte r d) r)) er′ g refl refl h
+      done-acts (Gives give index (InPart d)) n (nextOf pc n) er pc f b rom ram refl (λ (r : Registers). withPart Byte r d (gaveOf give index (partOf Byte r d) r)) er′ g refl refl h
 
--- in memory, where the operand s says the byte
-module _ (index : Index) (s n pc : ℕ) (er : List ℕ) (f : Condition) (b : Board) (rom ram : List ℕ) (e : Deed) where
+-- in memory, where the operand s says the byte; x is what an access to it costs
+module _ (index : Index) (s n pc : ℕ) (er : List ℕ) (f : Condition) (b : Board) (rom ram : List ℕ) (e : Deed) (x : ℕ)
+    (cost : x ≡ sumOf (b .site) (madeAt Load Byte (addressIn s er))) where
   abbrev pub Ends : Instruction → List ℕ → ℕ → Type 0
   Ends i m states = TurnsOn (Code i n) er er pc f b rom ram m (endedOf (e .outcome) (e .condition) (nextOf pc n) states)
 
   took-ends : (take : Take) (t : Bool) → ltb s 256 ≡ t → effectIn er pc e ≡ takesAt take index (addressIn s er) (lent er pc f) b rom ram
-      → Ends (Takes take index (spotAs s)) ram 6
-  unfolding effectOf followOf takesOf addressOf partOf spotAs addressIn
+      → Ends (Takes take index (spotAs s)) ram (4 + x)
+  unfolding effectOf followOf takesOf addressOf stepOver partOf spotAs addressIn baseOf
   took-ends take true h q =
-      rw h (ended-acts (Takes take index (AtEr (s % 8))) n (nextOf pc n) er pc f b rom ram er ram e refl (ap (λ (x : Effect). stepped x ram) (rw h at q)))
+      let i = Takes take index (AtEr (s % 8)) in
+      rw h
+      (ended-taking i n (nextOf pc n) er pc f b rom ram (4 + x) er ram e
+      (λ o. rw (cost, h) (sym (states-once (b .site) (lent er pc f) i (touch Load Byte (At (s % 8))) refl))) refl
+      (ap (λ (y : Effect). stepped y ram) (rw h at q)))
   took-ends take false h q =
-      rw h (ended-acts (Takes take index (AtAbs (s % 256))) n (nextOf pc n) er pc f b rom ram er ram e refl (ap (λ (x : Effect). stepped x ram) (rw h at q)))
+      let i = Takes take index (AtAbs (s % 256)) in
+      rw h
+      (ended-taking i n (nextOf pc n) er pc f b rom ram (4 + x) er ram e
+      (λ o. rw (cost, h) (sym (states-once (b .site) (lent er pc f) i (touch Load Byte (Abs8 (s % 256))) refl))) refl
+      (ap (λ (y : Effect). stepped y ram) (rw h at q)))
 
-  pub take-ends : (take : Take) → effectIn er pc e ≡ takesAt take index (addressIn s er) (lent er pc f) b rom ram → Ends (Takes take index (spotAs s)) ram 6
+  pub take-ends : (take : Take) → effectIn er pc e ≡ takesAt take index (addressIn s er) (lent er pc f) b rom ram → Ends (Takes take index (spotAs s)) ram (4 + x)
   take-ends take q = took-ends take (ltb s 256) refl q
 
   gave-ends : (give : Give) (ram′ : List ℕ) (t : Bool) → ltb s 256 ≡ t → stepped (effectIn er pc e) ram′ ≡ givesAt give index (addressIn s er) (lent er pc f) b rom ram
-      → Ends (Gives give index (spotAs s)) ram′ 8
-  unfolding effectOf followOf givesOf addressOf partOf spotAs addressIn
+      → Ends (Gives give index (spotAs s)) ram′ (4 + x + x)
+  unfolding effectOf followOf givesOf addressOf stepOver partOf spotAs addressIn baseOf
   gave-ends give ram′ true h q =
-      rw h (ended-acts (Gives give index (AtEr (s % 8))) n (nextOf pc n) er pc f b rom ram er ram′ e refl (rw h at q))
+      let i = Gives give index (AtEr (s % 8)) in
+      let p = At (s % 8) in
+      rw h
+      (ended-taking i n (nextOf pc n) er pc f b rom ram (4 + x + x) er ram′ e
+      (λ o. rw (cost, h) (sym (states-twice (b .site) (lent er pc f) i (touch Load Byte p) (touch Store Byte p) refl))) refl (rw h at q))
   gave-ends give ram′ false h q =
-      rw h (ended-acts (Gives give index (AtAbs (s % 256))) n (nextOf pc n) er pc f b rom ram er ram′ e refl (rw h at q))
+      let i = Gives give index (AtAbs (s % 256)) in
+      let p = Abs8 (s % 256) in
+      rw h
+      (ended-taking i n (nextOf pc n) er pc f b rom ram (4 + x + x) er ram′ e
+      (λ o. rw (cost, h) (sym (states-twice (b .site) (lent er pc f) i (touch Load Byte p) (touch Store Byte p) refl))) refl (rw h at q))
 
-  pub give-ends : (give : Give) (ram′ : List ℕ) → stepped (effectIn er pc e) ram′ ≡ givesAt give index (addressIn s er) (lent er pc f) b rom ram → Ends (Gives give index (spotAs s)) ram′ 8
+  pub give-ends : (give : Give) (ram′ : List ℕ) → stepped (effectIn er pc e) ram′ ≡ givesAt give index (addressIn s er) (lent er pc f) b rom ram
+      → Ends (Gives give index (spotAs s)) ram′ (4 + x + x)
   give-ends give ram′ q = gave-ends give ram′ (ltb s 256) refl q

@@ -95,10 +95,11 @@ pub fn take_at(
     let index = index_as((x / 512 % 32) as u8);
     let a = address((x % 512) as u32, er);
     let e = bitwork::take_at(take_as(k), index, a, er, f, b, rom, ram);
-    turns::ended(e, flow::next(pc, 4), 6)
+    let n = timing::access(b.site, Width::Byte, a);
+    turns::ended(e, flow::next(pc, 4), 4 + n)
 }
 
-// Kind 19: BSET to BIST of a byte in memory.
+// Kind 19: BSET to BIST of a byte in memory, which is read and written.
 pub fn give_at(
     k: u8,
     x: u64,
@@ -114,5 +115,6 @@ pub fn give_at(
     let index = index_as((x / 512 % 32) as u8);
     let a = address((x % 512) as u32, er);
     let e = bitwork::give_at(give_as(k), index, a, er, f, b, rom, ram);
-    turns::ended(e, flow::next(pc, 4), 8)
+    let n = timing::access(b.site, Width::Byte, a);
+    turns::ended(e, flow::next(pc, 4), 4 + n + n)
 }

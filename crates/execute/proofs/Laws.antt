@@ -34,24 +34,24 @@ past-five k a b c d e f = le-ltb k 6 (omega arith)
 module _ (er er′ : List ℕ) (f f′ : Condition) where
   pub reg-obeys : (op : Op) (w : Width) (e d : ℕ) → Operates op w (partIn w er e) d er er′ f f′ → Obeys (Alu op w (Reg e) d) (regStates op w) er er′ f f′
   unfolding effectOf followOf aluOf sourceOf partOf
-  reg-obeys op w e d h m pc b rom ram = done-acts (Alu op w (Reg e) d) m (nextOf pc m) er pc f b rom ram (aluOf op w (Reg e) d) er′ f′ refl refl h
+  reg-obeys op w e d h m pc b rom ram = done-acts (Alu op w (Reg e) d) m (nextOf pc m) er pc f b rom ram refl (aluOf op w (Reg e) d) er′ f′ refl refl h
 
   pub imm-obeys : (op : Op) (w : Width) (v d : ℕ) → Operates op w v d er er′ f f′ → Obeys (Alu op w (Imm v) d) (immStates w) er er′ f f′
   unfolding effectOf followOf aluOf sourceOf
-  imm-obeys op w v d h m pc b rom ram = done-acts (Alu op w (Imm v) d) m (nextOf pc m) er pc f b rom ram (aluOf op w (Imm v) d) er′ f′ refl refl h
+  imm-obeys op w v d h m pc b rom ram = done-acts (Alu op w (Imm v) d) m (nextOf pc m) er pc f b rom ram refl (aluOf op w (Imm v) d) er′ f′ refl refl h
 
   pub inc-dec-obeys : (way : Way) (w : Width) (by : By) (d : ℕ) → Does (incDecOf way w by d) er er′ f f′ → Obeys (IncDec way w by d) 2 er er′ f f′
   unfolding effectOf followOf
-  inc-dec-obeys way w by d h m pc b rom ram = done-acts (IncDec way w by d) m (nextOf pc m) er pc f b rom ram (incDecOf way w by d) er′ f′ refl refl h
+  inc-dec-obeys way w by d h m pc b rom ram = done-acts (IncDec way w by d) m (nextOf pc m) er pc f b rom ram refl (incDecOf way w by d) er′ f′ refl refl h
 
   pub adds-subs-obeys : (way : Way) (by : By) (d : ℕ) → Does (addsSubsOf way by d) er er′ f f′ → Obeys (AddsSubs way by d) 2 er er′ f f′
   unfolding effectOf followOf
-  adds-subs-obeys way by d h m pc b rom ram = done-acts (AddsSubs way by d) m (nextOf pc m) er pc f b rom ram (addsSubsOf way by d) er′ f′ refl refl h
+  adds-subs-obeys way by d h m pc b rom ram = done-acts (AddsSubs way by d) m (nextOf pc m) er pc f b rom ram refl (addsSubsOf way by d) er′ f′ refl refl h
 
   pub shift-obeys : (t : Turn) (w : Width) (d : ℕ) → Does (shiftOf t w d) er er′ f f′ → Obeys (Shift t w d) 2 er er′ f f′
   unfolding effectOf followOf
-  shift-obeys t w d h m pc b rom ram = done-acts (Shift t w d) m (nextOf pc m) er pc f b rom ram (shiftOf t w d) er′ f′ refl refl h
+  shift-obeys t w d h m pc b rom ram = done-acts (Shift t w d) m (nextOf pc m) er pc f b rom ram refl (shiftOf t w d) er′ f′ refl refl h
 
   pub unary-obeys : (s : Single) (w : Width) (d : ℕ) → Does (unaryOf s w d) er er′ f f′ → Obeys (Unary s w d) 2 er er′ f f′
   unfolding effectOf followOf
-  unary-obeys s w d h m pc b rom ram = done-acts (Unary s w d) m (nextOf pc m) er pc f b rom ram (unaryOf s w d) er′ f′ refl refl h
+  unary-obeys s w d h m pc b rom ram = done-acts (Unary s w d) m (nextOf pc m) er pc f b rom ram refl (unaryOf s w d) er′ f′ refl refl h

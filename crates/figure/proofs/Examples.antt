@@ -8,6 +8,10 @@ use lib.ListN.{length, getD, List·getD-eq-default}
 use lib.Dec.{lit<, lit≤}
 use Rattle.refusal.specs.declared.Refusal.the-variants.{FetchOutside, BadEntry, NotUpward}
 use Rattle.codes.specs.Exact.{Bytes}
+use Rattle.site.specs.declared.Site.{Site}
+use Rattle.site.specs.Costs.{dearestOf}
+use Rattle.memory.specs.Board.{plainBoard, couldCarry}
+use Rattle.timing.specs.Made.{baseOf, mostAt, mostOf}
 use Rattle.arith.specs.Widths.{signedOf}
 use Rattle.flow.specs.Targets.{targetOf}
 use Rattle.paths.specs.Paths.{RowsFrom}
@@ -20,13 +24,17 @@ use Rattle.figure.specs.Answer.{askedOf, Filled, Figured}
 use Rattle.figure.specs.MirrorFigure.{whyAt, verdictOf}
 use Rattle.figure.proofs.Answered.{figured-unfit, figured-fit}
 
+-- the site of their board, which has no ports
+abbrev pub bare : Site
+bare = plainBoard 0xFFEF10 .site
+
 -- the rows of a memory, from the highest place down
 module _ (rom : List ℕ) (bytes : Bytes rom) (even : length rom % 2 ≡ 0) (small : length rom ≤ 524288) (t : List ℕ) where
-  above : (p : ℕ) → length rom ≤ p → RowsFrom (flowAt rom) (length rom) t p
+  above : (p : ℕ) → length rom ≤ p → RowsFrom (flowAt bare rom) (length rom) t p
   above p h q k e l = absurd (omega arith)
 
-  down : (p : ℕ) → p % 2 ≡ 0 → p < 16777216 → reckonedOf (length rom) t p (flowAt rom p) ≡ record { figure = getD t p 0; low = getD t (p + 1) 0 } → RowsFrom (flowAt rom) (length rom) t (p + 2) → RowsFrom (flowAt rom) (length rom) t p
-  down p e h i r = rows-down (flowAt rom) (length rom) (listing rom bytes even small) t p (record { even = e; in-range = h }) r i
+  down : (p : ℕ) → p % 2 ≡ 0 → p < 16777216 → reckonedOf (length rom) t p (flowAt bare rom p) ≡ record { figure = getD t p 0; low = getD t (p + 1) 0 } → RowsFrom (flowAt bare rom) (length rom) t (p + 2) → RowsFrom (flowAt bare rom) (length rom) t p
+  down p e h i r = rows-down (flowAt bare rom) (length rom) (listing bare rom bytes even small) t p (record { even = e; in-range = h }) r i
 
 -- two tables of n numbers are alike past them
 past : (a b : List ℕ) (n : ℕ) → length a ≤ n → length b ≤ n → (i : ℕ) → n ≤ i → getD a i 0 ≡ getD b i 0
@@ -45,28 +53,28 @@ table10 = 16 ∷ 16777215 ∷ 12 ∷ 16777215 ∷ 10 ∷ 16777215 ∷ []
 bytes10 : Bytes code10
 bytes10 = omega arith
 
-filled10 : Filled code10 sevens table10
-unfolding flowAt foundFlow goesFlow branchFlow decodedAt signedOf targetOf rowOf joined upwardOf reckonedOf
+filled10 : Filled (flowAt bare code10) 6 sevens table10
+unfolding flowAt foundFlow goesFlow branchFlow decodedAt mostOf baseOf mostAt dearestOf signedOf targetOf rowOf joined upwardOf reckonedOf
 filled10 =
     let d = down code10 bytes10 refl (lit≤ tt) table10 in
     record { same-length = refl; rows = d 0 refl (lit< tt) refl (d 2 refl (lit< tt) refl (d 4 refl (lit< tt) refl (above code10 bytes10 refl (lit≤ tt) table10 6 (lit≤ tt)))); rest = past table10 sevens 6 (lit≤ tt) (lit≤ tt) }
 
-pub example10 : Figured code10 0 sevens (Longest 16) table10
-unfolding askedOf verdictOf rowOf
-example10 = figured-fit code10 bytes10 0 sevens table10 refl filled10
+pub example10 : Figured bare code10 0 sevens (Longest 16) table10
+unfolding askedOf couldCarry verdictOf rowOf
+example10 = figured-fit bare code10 bytes10 0 sevens table10 refl filled10
 
 -- the same from the entry 2
-pub example10-2 : Figured code10 2 sevens (Longest 12) table10
-unfolding askedOf verdictOf rowOf
-example10-2 = figured-fit code10 bytes10 2 sevens table10 refl filled10
+pub example10-2 : Figured bare code10 2 sevens (Longest 12) table10
+unfolding askedOf couldCarry verdictOf rowOf
+example10-2 = figured-fit bare code10 bytes10 2 sevens table10 refl filled10
 
 -- an address that is no place of that memory
-pub high-entry : Figured code10 16777216 sevens (Forbids (BadEntry 16777216)) sevens
-unfolding askedOf
-high-entry = figured-unfit code10 16777216 sevens (BadEntry 16777216) refl
+pub high-entry : Figured bare code10 16777216 sevens (Forbids (BadEntry 16777216)) sevens
+unfolding askedOf couldCarry
+high-entry = figured-unfit bare code10 16777216 sevens (BadEntry 16777216) refl
 
 -- a memory of one instruction, whose row is x and y
-one-row : (a b x y : ℕ) (rest : List ℕ) → Bytes (a ∷ b ∷ []) → reckonedOf 2 (x ∷ y ∷ rest) 0 (flowAt (a ∷ b ∷ []) 0) ≡ record { figure = x; low = y } → Filled (a ∷ b ∷ []) (7 ∷ 7 ∷ rest) (x ∷ y ∷ rest)
+one-row : (a b x y : ℕ) (rest : List ℕ) → Bytes (a ∷ b ∷ []) → reckonedOf 2 (x ∷ y ∷ rest) 0 (flowAt bare (a ∷ b ∷ []) 0) ≡ record { figure = x; low = y } → Filled (flowAt bare (a ∷ b ∷ [])) 2 (7 ∷ 7 ∷ rest) (x ∷ y ∷ rest)
 one-row a b x y rest bytes i =
     record { same-length = refl; rows = down (a ∷ b ∷ []) bytes refl (lit≤ tt) (x ∷ y ∷ rest) 0 refl (lit< tt) i (above (a ∷ b ∷ []) bytes refl (lit≤ tt) (x ∷ y ∷ rest) 2 (lit≤ tt)); rest = alike }
   where
@@ -76,16 +84,16 @@ one-row a b x y rest bytes i =
     alike (suc (suc i)) h = refl
 
 -- example 11: 40FE, refusal 10 at 0
-pub example11 : Figured (0x40 ∷ 0xFE ∷ []) 0 (7 ∷ 7 ∷ []) (Forbids (NotUpward 0)) (0 ∷ 0 ∷ [])
-unfolding flowAt foundFlow goesFlow branchFlow decodedAt signedOf targetOf rowOf joined upwardOf reckonedOf askedOf verdictOf whyAt whyOf
-example11 = figured-fit (0x40 ∷ 0xFE ∷ []) (omega arith) 0 (7 ∷ 7 ∷ []) (0 ∷ 0 ∷ []) refl (one-row 0x40 0xFE 0 0 [] (omega arith) refl)
+pub example11 : Figured bare (0x40 ∷ 0xFE ∷ []) 0 (7 ∷ 7 ∷ []) (Forbids (NotUpward 0)) (0 ∷ 0 ∷ [])
+unfolding flowAt foundFlow goesFlow branchFlow decodedAt mostOf baseOf mostAt dearestOf signedOf targetOf rowOf joined upwardOf reckonedOf askedOf couldCarry verdictOf whyAt whyOf
+example11 = figured-fit bare (0x40 ∷ 0xFE ∷ []) (omega arith) 0 (7 ∷ 7 ∷ []) (0 ∷ 0 ∷ []) refl (one-row 0x40 0xFE 0 0 [] (omega arith) refl)
 
 -- example 12: 0B50 alone, refusal 2 at 2; table 0, 2, and what stands past it stays
-pub example12 : Figured (0x0B ∷ 0x50 ∷ []) 0 (7 ∷ 7 ∷ 9 ∷ []) (Forbids (FetchOutside 2)) (0 ∷ 2 ∷ 9 ∷ [])
-unfolding flowAt foundFlow goesFlow branchFlow decodedAt signedOf targetOf rowOf joined upwardOf reckonedOf askedOf verdictOf whyAt whyOf
-example12 = figured-fit (0x0B ∷ 0x50 ∷ []) (omega arith) 0 (7 ∷ 7 ∷ 9 ∷ []) (0 ∷ 2 ∷ 9 ∷ []) refl (one-row 0x0B 0x50 0 2 (9 ∷ []) (omega arith) refl)
+pub example12 : Figured bare (0x0B ∷ 0x50 ∷ []) 0 (7 ∷ 7 ∷ 9 ∷ []) (Forbids (FetchOutside 2)) (0 ∷ 2 ∷ 9 ∷ [])
+unfolding flowAt foundFlow goesFlow branchFlow decodedAt mostOf baseOf mostAt dearestOf signedOf targetOf rowOf joined upwardOf reckonedOf askedOf couldCarry verdictOf whyAt whyOf
+example12 = figured-fit bare (0x0B ∷ 0x50 ∷ []) (omega arith) 0 (7 ∷ 7 ∷ 9 ∷ []) (0 ∷ 2 ∷ 9 ∷ []) refl (one-row 0x0B 0x50 0 2 (9 ∷ []) (omega arith) refl)
 
 -- 4080: a branch back below 0 goes to a place above it, outside: refusal 2 there, and not 10
-pub wrapped : Figured (0x40 ∷ 0x80 ∷ []) 0 (7 ∷ 7 ∷ []) (Forbids (FetchOutside 16777090)) (0 ∷ 16777090 ∷ [])
-unfolding flowAt foundFlow goesFlow branchFlow decodedAt signedOf targetOf rowOf joined upwardOf reckonedOf askedOf verdictOf whyAt whyOf
-wrapped = figured-fit (0x40 ∷ 0x80 ∷ []) (omega arith) 0 (7 ∷ 7 ∷ []) (0 ∷ 16777090 ∷ []) refl (one-row 0x40 0x80 0 16777090 [] (omega arith) refl)
+pub wrapped : Figured bare (0x40 ∷ 0x80 ∷ []) 0 (7 ∷ 7 ∷ []) (Forbids (FetchOutside 16777090)) (0 ∷ 16777090 ∷ [])
+unfolding flowAt foundFlow goesFlow branchFlow decodedAt mostOf baseOf mostAt dearestOf signedOf targetOf rowOf joined upwardOf reckonedOf askedOf couldCarry verdictOf whyAt whyOf
+wrapped = figured-fit bare (0x40 ∷ 0x80 ∷ []) (omega arith) 0 (7 ∷ 7 ∷ []) (0 ∷ 16777090 ∷ []) refl (one-row 0x40 0x80 0 16777090 [] (omega arith) refl)

@@ -7,6 +7,8 @@ use native.Mathlib.Omega.{arith}
 use lib.ListN.{length}
 use Rattle.refusal.specs.declared.Refusal.{Refusal}
 use Rattle.codes.specs.Exact.{Bytes}
+use Rattle.site.specs.declared.Site.{Site}
+use Rattle.paths.specs.declared.Flow.{Flow}
 use Rattle.paths.specs.declared.Flow.the-variants.{Stop}
 use Rattle.paths.specs.Paths.{IsPlace, Clear, Largest}
 use Rattle.machine.specs.Machine.{Machine}
@@ -19,23 +21,24 @@ use Rattle.figure.specs.declared.Asked.the-variants.{Fit, Unfit}
 use Rattle.figure.specs.declared.Verdict.{Verdict}
 use Rattle.figure.specs.declared.Verdict.the-variants.{Longest}
 use Rattle.figure.specs.Answer.{askedOf, Told, longest, forbids, InOrder, Figured}
-use Rattle.figure.proofs.Answered.{fit-good, good-place}
+use Rattle.figure.proofs.Answered.{fit-good, even, small, good-place}
 
 -- a figure is answered only where the input is fit
-told-of : (x : Asked) (rom : List ℕ) (entry : ℕ) (t : List ℕ) (r : Verdict) (a : List ℕ) (n : ℕ) → r ≡ Longest n → InOrder x rom entry t r a → (x ≡ Fit) × Told rom entry r
-told-of (Unfit f) rom entry t r a n e p = absurd (let q : _≡_ {A = ℕ} 0 1 = cc (e, p .0) in omega arith)
-told-of Fit rom entry t r a n e p = (refl, p .0)
+told-of : (x : Asked) (flow : ℕ → Flow) (len entry : ℕ) (t : List ℕ) (r : Verdict) (a : List ℕ) (n : ℕ) → r ≡ Longest n → InOrder x flow len entry t r a
+    → (x ≡ Fit) × Told flow entry r
+told-of (Unfit f) flow len entry t r a n e p = absurd (let q : _≡_ {A = ℕ} 0 1 = cc (e, p .0) in omega arith)
+told-of Fit flow len entry t r a n e p = (refl, p .0)
 
-told-longest : {rom : List ℕ} {entry : ℕ} {r : Verdict} (n : ℕ) → r ≡ Longest n → Told rom entry r → Clear (flowAt rom) entry × Largest (flowAt rom) entry n
+told-longest : {flow : ℕ → Flow} {entry : ℕ} {r : Verdict} (n : ℕ) → r ≡ Longest n → Told flow entry r → Clear flow entry × Largest flow entry n
 told-longest n e (longest {n = m} c l) = let i : m ≡ n = cc in (c, rw i at l)
 told-longest n e (forbids w b) = absurd (let q : _≡_ {A = ℕ} 0 1 = cc in omega arith)
 
-module _ (rom : List ℕ) (bytes : Bytes rom) (M : Machine) (Kept : M .State → Type 0)
-    (step : (s : M .State) → Kept s → IsPlace (M .pc s) → ((r : Refusal) → flowAt rom (M .pc s) ≡ Stop r → ⊥) → Stepped M Kept (flowAt rom (M .pc s)) s) where
-  pub kept : {entry : ℕ} {t : List ℕ} {r : Verdict} {a : List ℕ} → Figured rom entry t r a
+module _ (k : Site) (rom : List ℕ) (bytes : Bytes rom) (M : Machine) (Kept : M .State → Type 0)
+    (step : (s : M .State) → Kept s → IsPlace (M .pc s) → ((r : Refusal) → flowAt k rom (M .pc s) ≡ Stop r → ⊥) → Stepped M Kept (flowAt k rom (M .pc s)) s) where
+  pub kept : {entry : ℕ} {t : List ℕ} {r : Verdict} {a : List ℕ} → Figured k rom entry t r a
       → (n : ℕ) → r ≡ Longest n → (s : M .State) → Kept s → M .pc s ≡ entry → Bounded M s n (length rom)
-  kept {entry} {t} {r} {a} p n e s k h =
-      let x = told-of (askedOf (length rom) (length t) entry) rom entry t r a n e (p .in-order) in
-      let g = fit-good (length rom) (length t) entry (x .0) in
+  kept {entry} {t} {r} {a} p n e s holds h =
+      let x = told-of (askedOf k (length rom) (length t) entry) (flowAt k rom) (length rom) entry t r a n e (p .in-order) in
+      let g = fit-good k (length rom) (length t) entry (x .0) in
       let y = told-longest n e (x .1) in
-      bounded M (flowAt rom) (length rom) (listing rom bytes (g .even) (g .small)) Kept step s n k (rw h (good-place g)) (rw h (y .0)) (rw h (y .1))
+      bounded M (flowAt k rom) (length rom) (listing k rom bytes (even k (length rom) (g .carried)) (small k (length rom) (g .carried))) Kept step s n holds (rw h (good-place g)) (rw h (y .0)) (rw h (y .1))

@@ -6,6 +6,7 @@ use native.Mathlib.Omega.{arith}
 use Rattle.refusal.specs.declared.Refusal.{Refusal}
 use Rattle.refusal.specs.declared.Outcome.the-variants.{Done, Refused}
 use Rattle.codes.specs.Exact.{Bytes}
+use Rattle.site.specs.declared.Site.{Site}
 use Rattle.memory.specs.declared.Board.{Board}
 use Rattle.step.specs.Step.{After}
 use Rattle.paths.specs.Runs.{Ending, Run}
@@ -18,12 +19,13 @@ use Rattle.figure.proofs.Answered.{exactly}
 use Rattle.figure.proofs.Kept.{kept}
 use Rattle.figure.proofs.Steps.{Kept, goes-where}
 
-pub runs : {rom : List ℕ} {entry : ℕ} {t : List ℕ} {r : Verdict} {a : List ℕ} → Bytes rom → Figured rom entry t r a → RunsKept rom entry r
-runs {rom} bytes p n e b s g h = kept rom bytes (processor b rom) (Kept b rom bytes) (λ u k z f. goes-where b rom bytes u z k f) p n e s g h
+pub runs : {k : Site} {rom : List ℕ} {entry : ℕ} {t : List ℕ} {r : Verdict} {a : List ℕ} → Bytes rom → Figured k rom entry t r a → RunsKept k rom entry r
+runs {k} {rom} bytes p n e b s on g h =
+    kept k rom bytes (processor b rom) (Kept k b on rom bytes) (λ u good z f. goes-where k b on rom bytes u z good f) p n e s g h
 
-pub promised : (rom : List ℕ) (entry : ℕ) (t : List ℕ) (r : Verdict) (a : List ℕ) → Bytes rom → Figured rom entry t r a
-    → Figured rom entry t r a × (RefusedExactly rom entry t r × RunsKept rom entry r)
-promised rom entry t r a bytes p = (p, (exactly p, runs bytes p))
+pub promised : (k : Site) (rom : List ℕ) (entry : ℕ) (t : List ℕ) (r : Verdict) (a : List ℕ) → Bytes rom → Figured k rom entry t r a
+    → Figured k rom entry t r a × (RefusedExactly k rom entry t r × RunsKept k rom entry r)
+promised k rom entry t r a bytes p = (p, (exactly p, runs bytes p))
 
 -- a start has one run, so that the promise speaks of the run
 one-step : (b : Board) (rom : List ℕ) → OneStep (processor b rom)

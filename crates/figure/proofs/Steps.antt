@@ -1,5 +1,5 @@
 -- A step of the processor goes where the paths of its listing go, by the few cases of where PC can go; and it has one answer. Assumes nothing.
-use mathlib.Core.Path.{_≡_, refl, sym, _∙_, ap}
+use mathlib.Core.Path.{_≡_, refl, sym, subst, _∙_, ap}
 use mathlib.Core.Logic.{_⊎_, inl, inr, ⊎-elim}
 use mathlib.Core.Bool.{Bool, true, false, cond, _&&_, xor}
 use mathlib.Core.List.{List}
@@ -13,7 +13,7 @@ use Rattle.refusal.specs.Refusals.{numberOf}
 use Rattle.refusal.specs.declared.Refusal.{Refusal}
 use Rattle.refusal.specs.declared.Refusal.the-variants.{FetchOutside, NotFollowed}
 use Rattle.refusal.specs.declared.Outcome.the-variants.{Done, Refused}
-use Rattle.codes.specs.States.{statesOf, goesOf}
+use Rattle.codes.specs.States.{goesOf}
 use Rattle.codes.specs.Exact.{Bytes}
 use Rattle.codes.specs.declared.Instruction.{Instruction}
 use Rattle.codes.specs.declared.Goes.{Goes}
@@ -32,10 +32,15 @@ use Rattle.flow.proofs.Signed.{target-even, target-in}
 use Rattle.registers.specs.declared.Condition.{Condition}
 use Rattle.registers.specs.declared.Registers.{Registers}
 use Rattle.registers.specs.Parts.{withPc}
+use Rattle.site.specs.declared.Site.{Site}
+use Rattle.timing.specs.Made.{mostOf}
+use Rattle.timing.proofs.Printed.{most-printed}
 use Rattle.memory.specs.Board.{goodBoard}
 use Rattle.memory.specs.declared.Board.{Board}
 use Rattle.memory.specs.declared.Got.{Got}
 use Rattle.memory.specs.declared.Got.the-variants.{Value, NotRead}
+use Rattle.moves.specs.Made.{statesAt}
+use Rattle.moves.proofs.States.{never-more, printed}
 use Rattle.step.specs.Follow.{evenCondition, holdsOf, aimOf, followOf}
 use Rattle.step.specs.Step.{After, after, answered, stays, goodPc, fetchOf, stepOf}
 use Rattle.step.proofs.Laws as Laws
@@ -47,6 +52,7 @@ use Rattle.paths.proofs.Laws.{le-or}
 use Rattle.paths.proofs.Sound.{Stepped, back-home, went, by-data, OneStep}
 use Rattle.listing.specs.Listing.{branchFlow, jumpFlow, goesFlow, foundFlow, decodedAt, flowAt}
 use Rattle.step.specs.Processor.{State, processor}
+use Rattle.figure.specs.Bound.{Carrying}
 
 -- an even address below 2^24 is what PC holds when it is set to it
 place-stays : (p : ℕ) → p % 2 ≡ 0 → p < 16777216 → p % 2 ^ 24 / 2 * 2 ≡ p
@@ -81,7 +87,12 @@ branch-count n t k true y = le-refl k
 branch-count n t k false true = le-refl k
 branch-count n t k false false = le-refl k
 
-module _ (b : Board) (rom : List ℕ) (bytes : Bytes rom) where
+-- a step on a board takes no more than what the site's figure counts
+within : (k : Site) (b : Board) → Carrying k b → (r : Registers) (i : Instruction) → statesAt (b .site) r i ≤ mostOf k i
+within k b (inl e) r i = subst (λ (x : Site). statesAt (b .site) r i ≤ mostOf x i) e (never-more (b .site) r i)
+within k b (inr (told, carried)) r i = omega (arith, printed (b .site) r carried i, most-printed k told i)
+
+module _ (k : Site) (b : Board) (on : Carrying k b) (rom : List ℕ) (bytes : Bytes rom) where
   -- working memory keeps its length, so the board stays right
   abbrev pub Kept : State → Type 0
   Kept s = goodBoard b (length rom) (length (s .mem)) ≡ true
@@ -98,7 +109,7 @@ module _ (b : Board) (rom : List ℕ) (bytes : Bytes rom) where
       next : ℕ
       next = nextOf pc n
 
-      flow-is : flowAt rom pc ≡ goesFlow pc (nextOf pc n) (statesOf i) (goesOf i)
+      flow-is : flowAt k rom pc ≡ goesFlow pc (nextOf pc n) (mostOf k i) (goesOf i)
       unfolding flowAt foundFlow
       flow-is = rw (lt-leb (length rom) pc inside, d)
 
@@ -106,13 +117,13 @@ module _ (b : Board) (rom : List ℕ) (bytes : Bytes rom) where
       unfolding decodedAt
       next-even = omega (arith, z .even, code-read pc (drop pc rom) i n (bytes-drop pc rom bytes) d .sized .even)
 
-      leads : (g : Goes) → ((f : Refusal) → goesFlow pc (nextOf pc n) (statesOf i) g ≡ Stop f → ⊥) → (g ≡ Returns → ⊥) → (p : ℕ)
-          → followOf r b rom (s .mem) g (nextOf pc n) ≡ Value p → Leads (goesFlow pc (nextOf pc n) (statesOf i) g) (p % 2 ^ 24 / 2 * 2)
+      leads : (g : Goes) → ((f : Refusal) → goesFlow pc (nextOf pc n) (mostOf k i) g ≡ Stop f → ⊥) → (g ≡ Returns → ⊥) → (p : ℕ)
+          → followOf r b rom (s .mem) g (nextOf pc n) ≡ Value p → Leads (goesFlow pc (nextOf pc n) (mostOf k i) g) (p % 2 ^ 24 / 2 * 2)
       unfolding goesFlow followOf jumpFlow aimOf
       leads Onward free out p e = let h : p ≡ nextOf pc n = cc in rw h (place-stays (nextOf pc n) next-even (omega arith))
       leads (Branches c reach) free out p e =
           let h : p ≡ cond (holdsOf c (r .condition)) (targetOf (nextOf pc n) reach) (nextOf pc n) = cc in
-          branch-leads (r .condition) c (nextOf pc n) (targetOf (nextOf pc n) reach) (statesOf i) p (place-stays (nextOf pc n) next-even (omega arith))
+          branch-leads (r .condition) c (nextOf pc n) (targetOf (nextOf pc n) reach) (mostOf k i) p (place-stays (nextOf pc n) next-even (omega arith))
           (place-stays (targetOf (nextOf pc n) reach) (target-even (nextOf pc n) reach) (target-in (nextOf pc n) reach)) h
       leads (Jumps (ByReg x)) free out p e = absurd (free (NotFollowed pc) refl)
       leads (Jumps (Direct a)) free out p e = let h : p ≡ a = cc in rw h
@@ -126,47 +137,47 @@ module _ (b : Board) (rom : List ℕ) (bytes : Bytes rom) where
       unfolding decodedAt
       returns-not out (j, m, e, g) = let h : i ≡ j = cc in out (rw h g)
 
-      counts : (g : Goes) → ((f : Refusal) → goesFlow pc (nextOf pc n) (statesOf i) g ≡ Stop f → ⊥) → statesOf i ≤ countOf (goesFlow pc (nextOf pc n) (statesOf i) g)
+      counts : (g : Goes) → ((f : Refusal) → goesFlow pc (nextOf pc n) (mostOf k i) g ≡ Stop f → ⊥) → mostOf k i ≤ countOf (goesFlow pc (nextOf pc n) (mostOf k i) g)
       unfolding goesFlow jumpFlow branchFlow
-      counts Onward free = le-refl (statesOf i)
-      counts (Branches c reach) free = branch-count (nextOf pc n) (targetOf (nextOf pc n) reach) (statesOf i) (eqb c 0) (eqb c 1)
+      counts Onward free = le-refl (mostOf k i)
+      counts (Branches c reach) free = branch-count (nextOf pc n) (targetOf (nextOf pc n) reach) (mostOf k i) (eqb c 0) (eqb c 1)
       counts (Jumps (ByReg x)) free = absurd (free (NotFollowed pc) refl)
-      counts (Jumps (Direct a)) free = le-refl (statesOf i)
+      counts (Jumps (Direct a)) free = le-refl (mostOf k i)
       counts (Jumps (Vector a)) free = absurd (free (NotFollowed pc) refl)
       counts (CallsNear reach) free = absurd (free (NotFollowed pc) refl)
       counts (Calls t) free = absurd (free (NotFollowed pc) refl)
-      counts Returns free = le-refl (statesOf i)
+      counts Returns free = le-refl (mostOf k i)
 
       module _ (p : ℕ) (q : Registers) (m : List ℕ) (same : length m ≡ length (s .mem)) (kept : Kept s)
-          (free : (f : Refusal) → flowAt rom pc ≡ Stop f → ⊥) (step : stepOf b rom (s .mem) r ≡ after (answered (withPc q p) (statesOf i) Done) m) where
+          (free : (f : Refusal) → flowAt k rom pc ≡ Stop f → ⊥) (step : stepOf b rom (s .mem) r ≡ after (answered (withPc q p) (statesAt (b .site) r i) Done) m) where
         -- the listing is the instruction's
-        here : (g : Goes) → goesOf i ≡ g → flowAt rom pc ≡ goesFlow pc (nextOf pc n) (statesOf i) g
-        here g h = flow-is ∙ ap (λ (x : Goes). goesFlow pc (nextOf pc n) (statesOf i) x) h
+        here : (g : Goes) → goesOf i ≡ g → flowAt k rom pc ≡ goesFlow pc (nextOf pc n) (mostOf k i) g
+        here g h = flow-is ∙ ap (λ (x : Goes). goesFlow pc (nextOf pc n) (mostOf k i) x) h
 
-        goes-on : (g : Goes) → goesOf i ≡ g → (g ≡ Returns → ⊥) → followOf r b rom (s .mem) g (nextOf pc n) ≡ Value p → Stepped (processor b rom) Kept (flowAt rom pc) s
+        goes-on : (g : Goes) → goesOf i ≡ g → (g ≡ Returns → ⊥) → followOf r b rom (s .mem) g (nextOf pc n) ≡ Value p → Stepped (processor b rom) Kept (flowAt k rom pc) s
         goes-on g h out e =
-            let clear : (f : Refusal) → goesFlow pc (nextOf pc n) (statesOf i) g ≡ Stop f → ⊥ = λ f x. free f (here g h ∙ x) in
+            let clear : (f : Refusal) → goesFlow pc (nextOf pc n) (mostOf k i) g ≡ Stop f → ⊥ = λ f x. free f (here g h ∙ x) in
             rw (here g h)
-            (went {t = record { regs = withPc q p; mem = m }} (returns-not (λ x. out (sym h ∙ x))) step (rw same kept) (leads g clear out p e) (counts g clear))
+            (went {t = record { regs = withPc q p; mem = m }} (returns-not (λ x. out (sym h ∙ x))) step (rw same kept) (leads g clear out p e) (omega (arith, within k b on r i, counts g clear)))
 
-        completed : (g : Goes) → goesOf i ≡ g → followOf r b rom (s .mem) g (nextOf pc n) ≡ Value p → Stepped (processor b rom) Kept (flowAt rom pc) s
+        completed : (g : Goes) → goesOf i ≡ g → followOf r b rom (s .mem) g (nextOf pc n) ≡ Value p → Stepped (processor b rom) Kept (flowAt k rom pc) s
         unfolding goesFlow decodedAt
         completed Onward h e = goes-on Onward h (λ x. let z : _≡_ {A = ℕ} 0 1 = cc in omega arith) e
         completed (Branches c reach) h e = goes-on (Branches c reach) h (λ x. let z : _≡_ {A = ℕ} 0 1 = cc in omega arith) e
         completed (Jumps t) h e = goes-on (Jumps t) h (λ x. let z : _≡_ {A = ℕ} 0 1 = cc in omega arith) e
         completed (CallsNear reach) h e = goes-on (CallsNear reach) h (λ x. let z : _≡_ {A = ℕ} 0 1 = cc in omega arith) e
         completed (Calls t) h e = goes-on (Calls t) h (λ x. let z : _≡_ {A = ℕ} 0 1 = cc in omega arith) e
-        completed Returns h e = back-home {t = record { regs = withPc q p; mem = m }} (i, n, d, h) step (here Returns h) (le-refl (statesOf i))
+        completed Returns h e = back-home {t = record { regs = withPc q p; mem = m }} (i, n, d, h) step (here Returns h) (within k b on r i)
 
-    module _ (z : IsPlace pc) (kept : Kept s) (free : (f : Refusal) → flowAt rom pc ≡ Stop f → ⊥) where
-      come : (a : After) → Comes r b rom (s .mem) a → stepOf b rom (s .mem) r ≡ a → Stepped (processor b rom) Kept (flowAt rom pc) s
+    module _ (z : IsPlace pc) (kept : Kept s) (free : (f : Refusal) → flowAt k rom pc ≡ Stop f → ⊥) where
+      come : (a : After) → Comes r b rom (s .mem) a → stepOf b rom (s .mem) r ≡ a → Stepped (processor b rom) Kept (flowAt k rom pc) s
       unfolding flowAt foundFlow decodedAt
       come a (outside l) e = absurd (free (FetchOutside pc) (rw (le-leb (length rom) pc (ltb-false pc (length rom) l))))
       come a (no-code f l d) e = absurd (free f (rw (lt-leb (length rom) pc (ltb-true pc (length rom) l), d)))
       come a (Laws.by-data i n f l d k) e = by-data e k
       come a (completes i n p q m l d g e′ k h) e = completed i n (ltb-true pc (length rom) l) d z p q m k kept free e (goesOf i) refl g
 
-      pub goes-where : Stepped (processor b rom) Kept (flowAt rom pc) s
+      pub goes-where : Stepped (processor b rom) Kept (flowAt k rom pc) s
       goes-where =
           let x : goodPc pc ≡ true = rw (eq-eqb (pc % 2) 0 (z .even), lt-ltb pc (2 ^ 24) (z .in-range)) in
           come (fetchOf r b rom (s .mem)) (comes r b rom (s .mem)) (step-is r b rom (s .mem) kept x)

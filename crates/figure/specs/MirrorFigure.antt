@@ -4,8 +4,10 @@ use mathlib.Core.List.{List}
 use Prim.Native.Nat.{ℕ, _%_}
 use lib.ListN.{length}
 use lib.Dec.{eqb}
+use Rattle.site.specs.declared.Site.{Site}
 use Rattle.refusal.specs.declared.Refusal.{Refusal}
 use Rattle.paths.specs.declared.Reckoned.{Reckoned}
+use Rattle.paths.specs.declared.Flow.{Flow}
 use Rattle.paths.specs.declared.WayOn.{WayOn}
 use Rattle.paths.specs.declared.WayOn.the-variants.{NoWay}
 use Rattle.paths.specs.MirrorRows.{rowOf, whyOf, onwardOf}
@@ -16,19 +18,19 @@ use Rattle.figure.specs.declared.Verdict.{Verdict}
 use Rattle.figure.specs.declared.Verdict.the-variants.{Longest, Forbids}
 use Rattle.figure.specs.Answer.{askedOf}
 
-unfoldable pub whyAt : List ℕ → ℕ → Refusal
-whyAt rom low = whyOf (low % 16777216) (flowAt rom (low % 16777216))
+unfoldable pub whyAt : (ℕ → Flow) → ℕ → Refusal
+whyAt flow low = whyOf (low % 16777216) (flow (low % 16777216))
 
-unfoldable pub verdictOf : List ℕ → Reckoned → Verdict
-verdictOf rom r = cond (eqb (r .low) 16777215) (Longest (r .figure)) (Forbids (whyAt rom (r .low)))
+unfoldable pub verdictOf : (ℕ → Flow) → Reckoned → Verdict
+verdictOf flow r = cond (eqb (r .low) 16777215) (Longest (r .figure)) (Forbids (whyAt flow (r .low)))
 
 -- what `way` answers
-unfoldable pub onFrom : List ℕ → List ℕ → ℕ → Reckoned → WayOn
-onFrom rom table place r = cond (eqb (r .low) 16777215) (onwardOf (length rom) table (flowAt rom place)) (NoWay (whyAt rom (r .low)))
+unfoldable pub onFrom : (ℕ → Flow) → ℕ → List ℕ → ℕ → Reckoned → WayOn
+onFrom flow len table place r = cond (eqb (r .low) 16777215) (onwardOf len table (flow place)) (NoWay (whyAt flow (r .low)))
 
-unfoldable pub wayAsked : List ℕ → List ℕ → ℕ → Asked → WayOn
-wayAsked rom table place (Unfit f) = NoWay f
-wayAsked rom table place Fit = onFrom rom table place (rowOf (length rom) table place)
+unfoldable pub wayAsked : (ℕ → Flow) → ℕ → List ℕ → ℕ → Asked → WayOn
+wayAsked flow len table place (Unfit f) = NoWay f
+wayAsked flow len table place Fit = onFrom flow len table place (rowOf len table place)
 
-unfoldable pub wayOf : List ℕ → List ℕ → ℕ → WayOn
-wayOf rom table place = wayAsked rom table place (askedOf (length rom) (length table) place)
+unfoldable pub wayOf : Site → List ℕ → List ℕ → ℕ → WayOn
+wayOf k rom table place = wayAsked (flowAt k rom) (length rom) table place (askedOf k (length rom) (length table) place)

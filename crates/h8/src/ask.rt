@@ -15,6 +15,7 @@ pub struct Request {
     pub fourth: usize,
     pub extra: usize,
     pub ram: usize,
+    pub port: usize,
     pub budget: usize,
     pub stop: usize,
     pub er: usize,
@@ -45,12 +46,13 @@ pub fn asks_help() -> bool {
 
 // How many arguments an option takes, itself included.
 fn width(k: Kind) -> usize
-    ensures { λ r. ⌜ (1 ≤ r) × (r ≤ 3) ⌝ }
+    ensures { λ r. ⌜ (1 ≤ r) × (r ≤ 4) ⌝ }
 {
     match k {
         Kind::AWord => 1,
         Kind::PlainOption => 1,
         Kind::RamOption => 3,
+        Kind::PortOption => 4,
         Kind::BudgetOption => 2,
         Kind::StopOption => 2,
         Kind::ErOption => 3,
@@ -87,6 +89,7 @@ fn noted(q: Request, k: Kind, i: usize) -> Request {
         Kind::AWord => r = word(q, i),
         Kind::PlainOption => r.plain = true,
         Kind::RamOption => r.ram = i,
+        Kind::PortOption => r.port = i,
         Kind::BudgetOption => r.budget = i,
         Kind::StopOption => r.stop = i,
         Kind::ErOption => r.er = i,
@@ -106,6 +109,7 @@ fn none(count: usize) -> Request {
         fourth: 0,
         extra: 0,
         ram: 0,
+        port: 0,
         budget: 0,
         stop: 0,
         er: 0,

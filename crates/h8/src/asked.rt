@@ -7,6 +7,7 @@ use asking::Kind;
 use lines::Given;
 use registers::Condition;
 use registers::Registers;
+use site::Area;
 
 // A stop address that PC never holds.
 const NEVER: u64 = 16777215;
@@ -14,6 +15,11 @@ const NEVER: u64 = 16777215;
 // `bad` where a line has said which argument is wrong, here and below.
 pub struct Wanted {
     pub given: Given,
+    pub bad: bool,
+}
+
+pub struct PortArea {
+    pub area: Area,
     pub bad: bool,
 }
 
@@ -51,9 +57,70 @@ fn asked_for(entry: u64, base: u64, length: u64, stop: u64, budget: u64) -> Want
             length: small(length),
             stop: small(stop),
             budget: small(budget),
+            area: none_at(small(base)),
+            code: 0,
         },
         bad: false,
     }
+}
+
+// No ports: an empty area.
+fn none_at(p: u32) -> Area {
+    Area {
+        base: p,
+        end: p,
+        bus: 8,
+    }
+}
+
+fn no_ports() -> PortArea {
+    PortArea {
+        area: none_at(0),
+        bad: true,
+    }
+}
+
+fn ports_of(base: u64, end: u64, bus: u64) -> PortArea {
+    PortArea {
+        area: Area {
+            base: small(base),
+            end: small(end),
+            bus: small(bus),
+        },
+        bad: false,
+    }
+}
+
+// The width of the ports' bus; if it is wrong, a line says so.
+fn bits(plain: bool, i: usize) -> Got {
+    let Got::Found(n) = fault::number(plain, b"BITS of --port", i, 16, b"8 or 16") else {
+        return Got::Wrong;
+    };
+    if (n == 8) | (n == 16) {
+        return Got::Found(n);
+    }
+    fault::wrong(plain, b"BITS of --port", i, b"8 or 16");
+    Got::Wrong
+}
+
+// The ports that --port names; without it an empty area at `otherwise`.
+pub fn ports(q: Request, otherwise: u32) -> PortArea {
+    if q.port == 0 {
+        return PortArea {
+            area: none_at(otherwise),
+            bad: false,
+        };
+    }
+    let Got::Found(base) = fault::address(q.plain, b"BASE of --port", after(q.port, 1)) else {
+        return no_ports();
+    };
+    let Got::Found(end) = fault::address(q.plain, b"END of --port", after(q.port, 2)) else {
+        return no_ports();
+    };
+    let Got::Found(bus) = bits(q.plain, after(q.port, 3)) else {
+        return no_ports();
+    };
+    ports_of(base, end, bus)
 }
 
 fn no_numbers() -> Wanted {

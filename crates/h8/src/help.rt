@@ -13,6 +13,7 @@ pub fn show_help() {
 
 ROM is a file, its first byte at address 0: an even number of bytes, at most 524288.
 Numbers are decimal or 0x. With --plain an answer is printed as one name and value a line.
+With --port BASE END BITS there are ports from BASE to below END, on a bus of 8 or 16 bits: data there takes more states.
 In a listing H'0100 is the maker's way to write 0x0100.
 
 A refusal says why there is no figure: its number, the place, what stands there and what that means.

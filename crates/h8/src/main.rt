@@ -14,6 +14,8 @@ use fault::Got;
 use figure::Verdict;
 use file::Loaded;
 use lines::Gap;
+use refusal::Refusal;
+use site::Site;
 
 fn either(a: usize, b: usize) -> usize {
     if a != 0 { a } else { b }
@@ -31,7 +33,7 @@ fn surplus(q: Request, u: Use) -> usize {
     }
 }
 
-// An option of `h8 run` beside another use.
+// An option of `h8 run` beside another use. Ports are of no use to `h8 help` either.
 fn astray(q: Request, u: Use) -> usize {
     let i = either(either(q.ram, q.budget), either(q.stop, q.er));
     match u {
@@ -39,7 +41,7 @@ fn astray(q: Request, u: Use) -> usize {
         Use::ForWay => i,
         Use::ForList => i,
         Use::ForRun => 0,
-        Use::ForHelp => i,
+        Use::ForHelp => either(i, q.port),
         Use::NoUse => 0,
     }
 }
@@ -58,7 +60,7 @@ fn faulty(q: Request, u: Use) -> bool {
         q.plain,
         b"the option",
         q.unknown,
-        b"--plain, --ram, --budget, --stop or --er; `h8 help` says more",
+        b"--plain, --port, --ram, --budget, --stop or --er; `h8 help` says more",
     ) {
         return true;
     }
@@ -92,41 +94,54 @@ fn gap(q: Request) -> Got {
     )
 }
 
-fn figure_of(plain: bool, rom: &[u8], table: &mut [u64], entry: u32, gap: Gap) {
-    let v = figure::figure(rom, entry, table);
-    show::write(lines::figure(text::blank(), rom, v, entry, gap, plain));
+// A refusal; 1 can lie only in the ports, since the ROM's length was looked at.
+fn refused(plain: bool, k: Site, rom: &[u8], f: Refusal) {
+    if f.number() == 1 {
+        let area = k.area;
+        show::write(lines::ports_wrong(text::blank(), rom, area, plain));
+    } else {
+        show::write(lines::refused(text::blank(), rom, f, plain));
+    }
 }
 
-fn figure_in(q: Request, rom: &[u8], table: &mut [u64], entry: u32) {
+fn figure_of(plain: bool, k: Site, rom: &[u8], table: &mut [u64], entry: u32, gap: Gap) {
+    let v = figure::figure(k, rom, entry, table);
+    match v {
+        Verdict::Longest(_) => show::write(lines::figure(text::blank(), rom, v, entry, gap, plain)),
+        Verdict::Forbids(f) => refused(plain, k, rom, f),
+    }
+}
+
+fn figure_in(q: Request, k: Site, rom: &[u8], table: &mut [u64], entry: u32) {
     let Got::Found(states) = gap(q) else {
         return;
     };
-    figure_of(q.plain, rom, table, entry, Gap::States(states));
+    figure_of(q.plain, k, rom, table, entry, Gap::States(states));
 }
 
-fn figure(q: Request, rom: &[u8], table: &mut [u64]) {
+fn figure(q: Request, k: Site, rom: &[u8], table: &mut [u64]) {
     let Got::Found(entry) = fault::address(q.plain, b"ENTRY", q.third) else {
         return;
     };
     if q.fourth == 0 {
-        figure_of(q.plain, rom, table, asked::small(entry), Gap::NoGap);
+        figure_of(q.plain, k, rom, table, asked::small(entry), Gap::NoGap);
     } else {
-        figure_in(q, rom, table, asked::small(entry));
+        figure_in(q, k, rom, table, asked::small(entry));
     }
 }
 
-fn way_of(plain: bool, rom: &[u8], table: &mut [u64], entry: u32) {
-    match figure::figure(rom, entry, table) {
-        Verdict::Longest(n) => places::way(rom, &table[..], entry, n, plain),
-        Verdict::Forbids(f) => show::write(lines::refused(text::blank(), rom, f, plain)),
+fn way_of(plain: bool, k: Site, rom: &[u8], table: &mut [u64], entry: u32) {
+    match figure::figure(k, rom, entry, table) {
+        Verdict::Longest(n) => places::way(k, rom, &table[..], entry, n, plain),
+        Verdict::Forbids(f) => refused(plain, k, rom, f),
     }
 }
 
-fn way(q: Request, rom: &[u8], table: &mut [u64]) {
+fn way(q: Request, k: Site, rom: &[u8], table: &mut [u64]) {
     let Got::Found(entry) = fault::address(q.plain, b"ENTRY", q.third) else {
         return;
     };
-    way_of(q.plain, rom, table, asked::small(entry));
+    way_of(q.plain, k, rom, table, asked::small(entry));
 }
 
 fn word_or(q: Request, name: &[u8], i: usize, otherwise: u64) -> Got {
@@ -136,9 +151,26 @@ fn word_or(q: Request, name: &[u8], i: usize, otherwise: u64) -> Got {
     fault::address(q.plain, name, i)
 }
 
-fn list_of(plain: bool, rom: &[u8], table: &mut [u64], from: usize, to: usize) {
-    figure::figure(rom, 0, table);
-    places::list(rom, &table[..], from, to, plain);
+fn listed(plain: bool, k: Site, rom: &[u8], table: &[u64], from: usize, to: usize, n: u32) {
+    if n == 1 {
+        let area = k.area;
+        show::write(lines::ports_wrong(text::blank(), rom, area, plain));
+    } else {
+        places::list(k, rom, table, from, to, plain);
+    }
+}
+
+// The number of the refusal; 0 where there is none.
+fn number(v: Verdict) -> u32 {
+    match v {
+        Verdict::Longest(_) => 0,
+        Verdict::Forbids(f) => f.number(),
+    }
+}
+
+fn list_of(plain: bool, k: Site, rom: &[u8], table: &mut [u64], from: usize, to: usize) {
+    let n = number(figure::figure(k, rom, 0, table));
+    listed(plain, k, rom, &table[..], from, to, n);
 }
 
 // Whether the first place can't be listed; then a line has said so.
@@ -154,7 +186,7 @@ fn no_start(q: Request, rom: &[u8], from: usize) -> bool {
     bad
 }
 
-fn list_from(q: Request, rom: &[u8], table: &mut [u64], from: usize, to: usize) {
+fn list_from(q: Request, k: Site, rom: &[u8], table: &mut [u64], from: usize, to: usize) {
     if no_start(q, rom, from) {
         return;
     }
@@ -162,26 +194,35 @@ fn list_from(q: Request, rom: &[u8], table: &mut [u64], from: usize, to: usize) 
         fault::wrong(q.plain, b"TO", q.fourth, b"an address not below FROM");
         return;
     }
-    list_of(q.plain, rom, table, from, to);
+    list_of(q.plain, k, rom, table, from, to);
 }
 
-fn list(q: Request, rom: &[u8], table: &mut [u64]) {
+fn list(q: Request, k: Site, rom: &[u8], table: &mut [u64]) {
     let Got::Found(from) = word_or(q, b"FROM", q.third, 0) else {
         return;
     };
     let Got::Found(to) = word_or(q, b"TO", q.fourth, 4294967295) else {
         return;
     };
-    list_from(q, rom, table, wide(from), wide(to));
+    list_from(q, k, rom, table, wide(from), wide(to));
 }
 
-fn answer(q: Request, u: Use, rom: &[u8], table: &mut [u64]) {
+fn answer(q: Request, u: Use, k: Site, rom: &[u8], table: &mut [u64]) {
     if let Use::ForFigure = u {
-        figure(q, rom, table);
+        figure(q, k, rom, table);
     } else if let Use::ForWay = u {
-        way(q, rom, table);
+        way(q, k, rom, table);
     } else {
-        list(q, rom, table);
+        list(q, k, rom, table);
+    }
+}
+
+// Without --port there are none, as on a board whose area is empty.
+fn with_ports(q: Request, u: Use, rom: &[u8], table: &mut [u64]) {
+    let p = asked::ports(q, 16777216);
+    if !p.bad {
+        let area = p.area;
+        answer(q, u, Site { area }, rom, table);
     }
 }
 
@@ -190,7 +231,7 @@ fn with_file(q: Request, u: Use, rom: &mut [u8], table: &mut [u64]) {
         return;
     };
     if n <= rom.len() {
-        answer(q, u, &rom[0..n], table);
+        with_ports(q, u, &rom[0..n], table);
     }
 }
 

@@ -1,6 +1,7 @@
 // The places of a way or of a listing, one after the other.
 use crate::show;
 use paths::WayOn;
+use site::Site;
 
 const NONE: u32 = 16777215;
 
@@ -14,14 +15,14 @@ fn next(w: WayOn) -> u32 {
 }
 
 // Places rise along a way, so it has no more turns than the ROM has bytes.
-fn follow(rom: &[u8], table: &[u64], entry: u32, plain: bool) {
+fn follow(k: Site, rom: &[u8], table: &[u64], entry: u32, plain: bool) {
     let mut p = entry;
     let mut total: u64 = 0;
     let mut turns = rom.len();
     while 0 < turns {
-        total = lines::total(rom, p, total);
-        show::write(lines::on_way(rom, p, total, plain));
-        p = next(figure::way(rom, table, p));
+        total = lines::total(k, rom, p, total);
+        show::write(lines::on_way(k, rom, p, total, plain));
+        p = next(figure::way(k, rom, table, p));
         if p == NONE {
             return;
         }
@@ -30,14 +31,14 @@ fn follow(rom: &[u8], table: &[u64], entry: u32, plain: bool) {
 }
 
 // The longest way from an entry, of n states, by a table that figure filled.
-pub fn way(rom: &[u8], table: &[u64], entry: u32, n: u64, plain: bool) {
+pub fn way(k: Site, rom: &[u8], table: &[u64], entry: u32, n: u64, plain: bool) {
     show::write(lines::way_heading(text::blank(), plain));
-    follow(rom, table, entry, plain);
+    follow(k, rom, table, entry, plain);
     show::write(lines::longest(text::blank(), entry, n, plain));
 }
 
 // The places from `from` to `to`, both included; each has a byte or more, so there are no more turns than the ROM has bytes.
-fn places(rom: &[u8], table: &[u64], from: usize, to: usize, plain: bool) {
+fn places(k: Site, rom: &[u8], table: &[u64], from: usize, to: usize, plain: bool) {
     let mut p = from;
     let mut turns = rom.len();
     while 0 < turns {
@@ -45,13 +46,13 @@ fn places(rom: &[u8], table: &[u64], from: usize, to: usize, plain: bool) {
             return;
         }
         let at = (p % 16777216) as u32;
-        show::write(lines::listed(rom, table, at, plain));
+        show::write(lines::listed(k, rom, table, at, plain));
         p = std::num::wrapping_add_usize(p, lines::length_at(rom, at) as usize);
         turns -= 1;
     }
 }
 
-pub fn list(rom: &[u8], table: &[u64], from: usize, to: usize, plain: bool) {
+pub fn list(k: Site, rom: &[u8], table: &[u64], from: usize, to: usize, plain: bool) {
     show::write(lines::list_heading(text::blank(), plain));
-    places(rom, table, from, to, plain);
+    places(k, rom, table, from, to, plain);
 }

@@ -5,9 +5,13 @@ use crate::show;
 use lines::Given;
 use memory::Board;
 use registers::Registers;
+use site::Site;
 
 fn go(rom: &[u8], ram: &mut [u8], g: Given, r: Registers, plain: bool) {
-    let a = run::run(Board { base: g.base }, rom, ram, r, g.stop, g.budget);
+    let area = g.area;
+    let site = Site { area };
+    let b = Board { base: g.base, site };
+    let a = run::run(b, rom, ram, r, g.stop, g.budget);
     show::write(lines::ran(text::blank(), rom, g, a, plain));
     show::write(lines::registers(text::blank(), a, plain));
 }
@@ -27,9 +31,32 @@ fn begun(q: Request, rom: &[u8], ram: &mut [u8], g: Given) {
     }
 }
 
+// The ports; the registers are left.
+fn with_ports(q: Request, rom: &[u8], ram: &mut [u8], g: Given) {
+    let p = asked::ports(q, g.base);
+    if !p.bad {
+        let area = p.area;
+        let code = (rom.len() % 4294967296) as u32;
+        begun(
+            q,
+            rom,
+            ram,
+            Given {
+                area,
+                code,
+                entry: g.entry,
+                base: g.base,
+                length: g.length,
+                stop: g.stop,
+                budget: g.budget,
+            },
+        );
+    }
+}
+
 pub fn show_run(q: Request, rom: &[u8], ram: &mut [u8]) {
     let w = asked::numbers(q);
     if !w.bad {
-        begun(q, rom, ram, w.given);
+        with_ports(q, rom, ram, w.given);
     }
 }

@@ -1,5 +1,5 @@
 -- What `figure` promises of its answer, told in numbers.
-use mathlib.Core.Path.{_≡_, refl, sym, ap, _∙_}
+use mathlib.Core.Path.{_≡_, refl, sym, ap, _∙_, subst}
 use mathlib.Core.List.{List}
 use Prim.Native.Nat.{ℕ, _≤_}
 use native.Mathlib.Omega.{arith}
@@ -7,10 +7,12 @@ use lib.ListN.{length, getD}
 use Rattle.refusal.specs.Refusals.{numberOf}
 use Rattle.refusal.specs.declared.Refusal.{Refusal}
 use Rattle.refusal.specs.declared.Refusal.the-variants.{BadBoard, FetchOutside, UnknownCode, CutShort, ReadOutside, WriteOutside, NoAdjustRow, BadEntry, NotFollowed, NotUpward, NotInstruction, BudgetTooLarge, LentTooShort, DivideFails, LeftOut}
+use Rattle.site.specs.declared.Site.{Site}
 use Rattle.figure.specs.Answer.{RefusedExactly}
 use Rattle.figure.specs.Bound.{RunsKept}
 use Rattle.figure.specs.declared.Verdict.{Verdict}
 use Rattle.figure.specs.declared.Verdict.the-variants.{Longest, Forbids}
+use Rattle.layout.specs.Board.{siteOf}
 use Rattle.layout.specs.Lent.{overwrite}
 use Rattle.host.specs.Answers.{Noted, noted, tell, refuse}
 use Rattle.host.specs.Figures.{figureTold, FigureExactly, FigureKept}
@@ -46,13 +48,21 @@ module _ (answer : List ℕ) {new : List ℕ} {n : ℕ} where
   unfolding figureTold refuse tell
   returned-refusal f e z = let x : n ≡ numberOf f = ap (λ (m : Noted). m .returned) e in omega (arith, numbered f)
 
-  module _ (rom : List ℕ) (entry : ℕ) where
-    pub figure-exactly : (table : List ℕ) (v : Verdict) → noted n new ≡ figureTold v answer → RefusedExactly rom entry table v
-        → FigureExactly rom entry table answer n
-    figure-exactly table (Longest k) e x h fit =
+  module _ (board rom : List ℕ) (entry : ℕ) where
+    exactly : (table : List ℕ) (v : Verdict) → noted n new ≡ figureTold v answer → RefusedExactly (siteOf board) rom entry table v
+        → FigureExactly board rom entry table answer n
+    exactly table (Longest k) e x h fit =
         ((λ some. absurd (some (returned-figure k e))), (λ met. absurd (let z : _≡_ {A = ℕ} 0 1 = cc (x fit .1 met .1) in omega arith)))
-    figure-exactly table (Forbids f) e x h fit = ((λ some. x fit .0 (f, refl)), (λ met. returned-refusal f e))
+    exactly table (Forbids f) e x h fit = ((λ some. x fit .0 (f, refl)), (λ met. returned-refusal f e))
 
-    pub figure-kept : (v : Verdict) → noted n new ≡ figureTold v answer → RunsKept rom entry v → FigureKept rom entry n new
-    figure-kept (Longest k) e runs zero = rw (answered-figure k e) runs
-    figure-kept (Forbids f) e runs zero = absurd (returned-refusal f e zero)
+    kept : (v : Verdict) → noted n new ≡ figureTold v answer → RunsKept (siteOf board) rom entry v → FigureKept board rom entry n new
+    kept (Longest k) e runs zero = rw (answered-figure k e) runs
+    kept (Forbids f) e runs zero = absurd (returned-refusal f e zero)
+
+    -- the site that was read from the board
+    module _ {k : Site} (s : k ≡ siteOf board) (v : Verdict) (e : noted n new ≡ figureTold v answer) where
+      pub figure-exactly : (table : List ℕ) → RefusedExactly k rom entry table v → FigureExactly board rom entry table answer n
+      figure-exactly table x = exactly table v e (subst (λ (j : Site). RefusedExactly j rom entry table v) s x)
+
+      pub figure-kept : RunsKept k rom entry v → FigureKept board rom entry n new
+      figure-kept runs = kept v e (subst (λ (j : Site). RunsKept j rom entry v) s runs)

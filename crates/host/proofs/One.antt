@@ -49,18 +49,18 @@ encode-one fields out answer x y (encoded h s e) (encoded {new = new} {e = r} k 
     let b = encodes-one e (subst (λ (i : Instruction). Encodes i out new r) (spells-one t s) f) in
     cc (b .0, b .1)
 
-pub step-one : (base : ℕ) (rom ram regs answer : List ℕ) → One (λ x. x ≡ stepCall base rom ram regs answer)
-step-one base rom ram regs answer = equal (stepCall base rom ram regs answer)
+pub step-one : (board rom ram regs answer : List ℕ) → One (λ x. x ≡ stepCall board rom ram regs answer)
+step-one board rom ram regs answer = equal (stepCall board rom ram regs answer)
 
-pub run-one : (base : ℕ) (rom ram regs : List ℕ) (stop budget : ℕ) (answer : List ℕ) → One (λ x. x ≡ runCall base rom ram regs stop budget answer)
-run-one base rom ram regs stop budget answer = equal (runCall base rom ram regs stop budget answer)
+pub run-one : (board rom ram regs : List ℕ) (stop budget : ℕ) (answer : List ℕ) → One (λ x. x ≡ runCall board rom ram regs stop budget answer)
+run-one board rom ram regs stop budget answer = equal (runCall board rom ram regs stop budget answer)
 
-pub figure-one : (rom : List ℕ) (entry : ℕ) (table answer : List ℕ) → One (FigureCall rom entry table answer)
-figure-one rom entry table answer x y (figures.answer-short h) (figures.answer-short k) = refl
-figure-one rom entry table answer x y (figures.answer-short h) (figured k f) = absurd (omega arith)
-figure-one rom entry table answer x y (figured h f) (figures.answer-short k) = absurd (omega arith)
-figure-one rom entry table answer x y (figured h f) (figured k g) = let b = figured-one f g in cc (b .0, b .1)
+pub figure-one : (board rom : List ℕ) (entry : ℕ) (table answer : List ℕ) → One (FigureCall board rom entry table answer)
+figure-one board rom entry table answer x y (figures.answer-short h) (figures.answer-short k) = refl
+figure-one board rom entry table answer x y (figures.answer-short h) (figured k f) = absurd (omega arith)
+figure-one board rom entry table answer x y (figured h f) (figures.answer-short k) = absurd (omega arith)
+figure-one board rom entry table answer x y (figured h f) (figured k g) = let b = figured-one f g in cc (b .0, b .1)
 
 -- (that the way is the one that its promise in words leaves is `way-one` of `figure`)
-pub way-one : (rom table : List ℕ) (place : ℕ) (answer : List ℕ) → One (λ x. x ≡ wayCall rom table place answer)
-way-one rom table place answer = equal (wayCall rom table place answer)
+pub way-one : (board rom table : List ℕ) (place : ℕ) (answer : List ℕ) → One (λ x. x ≡ wayCall board rom table place answer)
+way-one board rom table place answer = equal (wayCall board rom table place answer)

@@ -7,8 +7,9 @@ use Rattle.refusal.specs.declared.Outcome.{Outcome}
 use Rattle.refusal.specs.declared.Outcome.the-variants.{Done, Refused}
 use Rattle.step.specs.Step.{After, stepOf}
 use Rattle.step.proofs.Laws.{step-refused}
+use Rattle.layout.specs.Board.{boardOf}
 use Rattle.layout.specs.Registers.{registersOf}
-use Rattle.host.specs.Steps.{left, board, stepLeft}
+use Rattle.host.specs.Steps.{left, stepLeft}
 use Rattle.host.specs.MirrorSteps.{stepTold, stepLent}
 
 by-outcome : (a : After) (ram regs answer : List ℕ) (o : Outcome) → ((f : Refusal) → o ≡ Refused f → a .mem ≡ ram)
@@ -17,10 +18,10 @@ unfolding stepTold stepLeft
 by-outcome a ram regs answer Done h = refl
 by-outcome a ram regs answer (Refused f) h = rw (h f refl)
 
-pub stepped-is : (base : ℕ) (rom ram regs answer : List ℕ)
-    → stepLent base rom ram regs answer
-    ≡ stepLeft (stepOf (board base) rom ram (registersOf regs) .answer .outcome) (stepOf (board base) rom ram (registersOf regs)) ram regs answer
+pub stepped-is : (board rom ram regs answer : List ℕ)
+    → stepLent board rom ram regs answer
+    ≡ stepLeft (stepOf (boardOf board) rom ram (registersOf regs) .answer .outcome) (stepOf (boardOf board) rom ram (registersOf regs)) ram regs answer
 unfolding stepLent
-stepped-is base rom ram regs answer =
-    by-outcome (stepOf (board base) rom ram (registersOf regs)) ram regs answer (stepOf (board base) rom ram (registersOf regs) .answer .outcome)
-    (λ f e. ap (λ (a : After). a .mem) (step-refused (registersOf regs) (board base) rom ram f e))
+stepped-is board rom ram regs answer =
+    by-outcome (stepOf (boardOf board) rom ram (registersOf regs)) ram regs answer (stepOf (boardOf board) rom ram (registersOf regs) .answer .outcome)
+    (λ f e. ap (λ (a : After). a .mem) (step-refused (registersOf regs) (boardOf board) rom ram f e))

@@ -4,6 +4,8 @@ use mathlib.Core.List.{List}
 use Prim.Native.Nat.{ℕ, _≤_}
 use lib.ListN.{length, getD}
 use lib.Seq.{sets}
+use Rattle.site.specs.declared.Site.{Site}
+use Rattle.layout.specs.Board.{siteOf}
 use Rattle.layout.proofs.Stored.{stored}
 use Rattle.figure.specs.Answer.{Figured}
 use Rattle.figure.specs.declared.Verdict.{Verdict}
@@ -37,8 +39,8 @@ module _ {n : ℕ} {a : List ℕ} {t : Noted} (e : noted n a ≡ t) where
 pub beside : {n : ℕ} {a x y : List ℕ} {t : Noted} (m : List ℕ) → kept n x a ≡ keeping y t → left n m x a ≡ leaving m y t
 beside m e = cc (ap (λ (k : Kept). k .returned) e, ap (λ (k : Kept). k .regs) e, ap (λ (k : Kept). k .answer) e)
 
-pub figure-call : {rom table after answer new : List ℕ} {entry n : ℕ} {v : Verdict} → 4 ≤ length answer → Figured rom entry table v after
-    → noted n new ≡ figureTold v answer → FigureCall rom entry table answer (figuring n after new)
-figure-call {rom} {table} {after} {answer} {new} {entry} {n} {v} h f e =
+pub figure-call : {k : Site} {board rom table after answer new : List ℕ} {entry n : ℕ} {v : Verdict} → k ≡ siteOf board → 4 ≤ length answer
+    → Figured k rom entry table v after → noted n new ≡ figureTold v answer → FigureCall board rom entry table answer (figuring n after new)
+figure-call {k} {board} {rom} {table} {after} {answer} {new} {entry} {n} {v} s h f e =
     let q : figuring n after new ≡ withTable after (figureTold v answer) = cc (e-returned e, e-answer e) in
-    subst (λ (x : Figuring). FigureCall rom entry table answer x) (sym q) (figured h f)
+    subst (λ (x : Figuring). FigureCall board rom entry table answer x) (sym q) (figured h (subst (λ (x : Site). Figured x rom entry table v after) s f))

@@ -16,6 +16,7 @@ use Rattle.listing.specs.Listing.{flowAt}
 use Rattle.paths.specs.Paths.{Meets}
 use Rattle.paths.specs.declared.WayOn.{WayOn}
 use Rattle.paths.specs.declared.WayOn.the-variants.{On, Home, NoWay}
+use Rattle.layout.specs.Board.{siteOf}
 use Rattle.host.specs.Answers.{Noted, noted, completed, tell, refuse}
 
 -- ---- h8_figure
@@ -38,20 +39,20 @@ figureTold (Longest n) answer = tell (completed (n ∷ [])) answer
 figureTold (Forbids f) answer = refuse f answer
 
 -- 13 for the answer; then what the figure of the routine promises (`Figured`)
-pub data FigureCall (rom : List ℕ) (entry : ℕ) (table answer : List ℕ) : Figuring → Type 0 where
-  answer-short : length answer < 4 → FigureCall rom entry table answer (figuring 13 table answer)
-  figured : {v : Verdict} {after : List ℕ} → 4 ≤ length answer → Figured rom entry table v after
-      → FigureCall rom entry table answer (withTable after (figureTold v answer))
+pub data FigureCall (board rom : List ℕ) (entry : ℕ) (table answer : List ℕ) : Figuring → Type 0 where
+  answer-short : length answer < 4 → FigureCall board rom entry table answer (figuring 13 table answer)
+  figured : {v : Verdict} {after : List ℕ} → 4 ≤ length answer → Figured (siteOf board) rom entry table v after
+      → FigureCall board rom entry table answer (withTable after (figureTold v answer))
 
--- with room for the answer, and the memory, the entry and the table fit, a refusal is returned exactly when a path meets a forbidden place
-abbrev pub FigureExactly : List ℕ → ℕ → List ℕ → List ℕ → ℕ → Type 0
-FigureExactly rom entry table answer returned =
-    4 ≤ length answer → askedOf (length rom) (length table) entry ≡ Fit
-    → (returned ≡ 0 → ⊥) ↔ ((f : ℕ) × Meets (flowAt rom) entry f)
+-- with room for the answer, and the area, the memory, the entry and the table fit, a refusal is returned exactly when a path meets a forbidden place
+abbrev pub FigureExactly : List ℕ → List ℕ → ℕ → List ℕ → List ℕ → ℕ → Type 0
+FigureExactly board rom entry table answer returned =
+    4 ≤ length answer → askedOf (siteOf board) (length rom) (length table) entry ≡ Fit
+    → (returned ≡ 0 → ⊥) ↔ ((f : ℕ) × Meets (flowAt (siteOf board) rom) entry f)
 
--- demand 3: where 0 is returned, every run on every good board with that code keeps to answer[3]
-abbrev pub FigureKept : List ℕ → ℕ → ℕ → List ℕ → Type 0
-FigureKept rom entry returned answer = returned ≡ 0 → RunsKept rom entry (Longest (getD answer 3 0))
+-- demand 3: where 0 is returned, every run on every good board with that code and that area keeps to answer[3]
+abbrev pub FigureKept : List ℕ → List ℕ → ℕ → ℕ → List ℕ → Type 0
+FigureKept board rom entry returned answer = returned ≡ 0 → RunsKept (siteOf board) rom entry (Longest (getD answer 3 0))
 
 -- ---- h8_way
 
@@ -62,5 +63,5 @@ wayTold Home answer = tell (completed (16777215 ∷ [])) answer
 wayTold (NoWay f) answer = refuse f answer
 
 -- 13 for the answer; then the way. What that is, `WayTold` says.
-unfoldable pub wayCall : List ℕ → List ℕ → ℕ → List ℕ → Noted
-wayCall rom table place answer = cond (ltb (length answer) 4) (noted 13 answer) (wayTold (wayOf rom table place) answer)
+unfoldable pub wayCall : List ℕ → List ℕ → List ℕ → ℕ → List ℕ → Noted
+wayCall board rom table place answer = cond (ltb (length answer) 4) (noted 13 answer) (wayTold (wayOf (siteOf board) rom table place) answer)

@@ -7,9 +7,10 @@ use Rattle.step.specs.Step.{stepOf}
 use Rattle.step.specs.declared.StepAnswer.{StepAnswer}
 use Rattle.run.specs.declared.RunAnswer.{RunAnswer}
 use Rattle.layout.specs.Lent.{overwrite}
+use Rattle.layout.specs.Board.{boardOf}
 use Rattle.layout.specs.Registers.{registersOf, tenOf}
 use Rattle.host.specs.Answers.{Noted, completed, tell, refuse}
-use Rattle.host.specs.Steps.{Left, left, board, runAnswer}
+use Rattle.host.specs.Steps.{Left, left, runAnswer}
 
 pub record Kept : Type 0 where
   pub returned : ℕ
@@ -26,9 +27,9 @@ unfoldable pub stepTold : Outcome → StepAnswer → List ℕ → List ℕ → K
 stepTold Done q regs answer = keeping (overwrite (tenOf (q .regs)) regs) (tell (completed (q .states ∷ [])) answer)
 stepTold (Refused f) q regs answer = keeping regs (refuse f answer)
 
-unfoldable pub stepLent : ℕ → List ℕ → List ℕ → List ℕ → List ℕ → Left
-stepLent base rom ram regs answer =
-    let a = stepOf (board base) rom ram (registersOf regs) in
+unfoldable pub stepLent : List ℕ → List ℕ → List ℕ → List ℕ → List ℕ → Left
+stepLent board rom ram regs answer =
+    let a = stepOf (boardOf board) rom ram (registersOf regs) in
     let k = stepTold (a .answer .outcome) (a .answer) regs answer in
     left (k .returned) (a .mem) (k .regs) (k .answer)
 

@@ -8,12 +8,12 @@ use Rattle.refusal.specs.declared.Refusal.{Refusal}
 use Rattle.refusal.specs.declared.Refusal.the-variants.{BadBoard, BudgetTooLarge, LentTooShort}
 use Rattle.refusal.specs.declared.Outcome.{Outcome}
 use Rattle.refusal.specs.declared.Outcome.the-variants.{Done, Refused}
-use Rattle.memory.specs.declared.Board.{Board}
 use Rattle.step.specs.Step.{After, stepOf}
 use Rattle.run.specs.Run.{Ran, runOf}
 use Rattle.run.specs.declared.Ending.{Ending}
 use Rattle.run.specs.declared.Ending.the-variants.{AtStop, Spent, Halted}
 use Rattle.layout.specs.Lent.{overwrite}
+use Rattle.layout.specs.Board.{boardOf}
 use Rattle.layout.specs.Registers.{registersLength, registersOf, tenOf}
 use Rattle.host.specs.Answers.{Noted, completed, refusedWith, tell, refuse}
 
@@ -30,9 +30,6 @@ left n m r a = record { returned = n; ram = m; regs = r; answer = a }
 abbrev pub leaving : List ℕ → List ℕ → Noted → Left
 leaving ram regs n = left (n .returned) ram regs (n .answer)
 
-abbrev pub board : ℕ → Board
-board base = record { base = base }
-
 -- ---- h8_step
 
 -- a step that is done leaves working memory and registers as it says, with [0, 0, 0, states]; a refused one leaves both as they were
@@ -42,9 +39,9 @@ stepLeft Done a ram regs answer =
 stepLeft (Refused f) a ram regs answer = leaving ram regs (refuse f answer)
 
 -- 13 for the answer; 13 for the registers; 1 for a condition number over 255; then the step
-unfoldable pub stepCall : ℕ → List ℕ → List ℕ → List ℕ → List ℕ → Left
-stepCall base rom ram regs answer =
-    let a = stepOf (board base) rom ram (registersOf regs) in
+unfoldable pub stepCall : List ℕ → List ℕ → List ℕ → List ℕ → List ℕ → Left
+stepCall board rom ram regs answer =
+    let a = stepOf (boardOf board) rom ram (registersOf regs) in
     cond (ltb (length answer) 4) (left 13 ram regs answer)
     (cond (ltb (length regs) registersLength) (leaving ram regs (refuse (LentTooShort registersLength) answer))
     (cond (ltb 255 (getD regs 9 0)) (leaving ram regs (refuse BadBoard answer))
@@ -65,11 +62,11 @@ runLeft a regs answer =
     (tell (runAnswer (a .answer .why) (a .answer .steps) (a .answer .states)) answer)
 
 -- 13 for the answer; 13 for the registers; 12; 1 for a condition number over 255; then the run
-unfoldable pub runCall : ℕ → List ℕ → List ℕ → List ℕ → ℕ → ℕ → List ℕ → Left
-runCall base rom ram regs stop budget answer =
+unfoldable pub runCall : List ℕ → List ℕ → List ℕ → List ℕ → ℕ → ℕ → List ℕ → Left
+runCall board rom ram regs stop budget answer =
     let halted : Refusal → Left = λ f. leaving ram regs (tell (runAnswer (Halted f) 0 0) answer) in
     cond (ltb (length answer) 6) (left 13 ram regs answer)
     (cond (ltb (length regs) registersLength) (halted (LentTooShort registersLength))
     (cond (ltb 1000000 budget) (halted BudgetTooLarge)
     (cond (ltb 255 (getD regs 9 0)) (halted BadBoard)
-    (runLeft (runOf (board base) rom ram (registersOf regs) stop budget) regs answer))))
+    (runLeft (runOf (boardOf board) rom ram (registersOf regs) stop budget) regs answer))))

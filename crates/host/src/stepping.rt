@@ -3,13 +3,13 @@ ghost use mathlib.Core.Path.{_≡_};
 ghost use Prim.Native.Nat.{_≤_};
 ghost use lib.ListN.{length};
 ghost use Rattle.host.specs.Answers.{noted, tell};
-ghost use Rattle.host.specs.Steps.{left, board, stepCall, runAnswer, runLeft, runCall};
+ghost use Rattle.host.specs.Steps.{left, stepCall, runAnswer, runLeft, runCall};
 ghost use Rattle.host.specs.MirrorSteps.{kept, stepTold, stepLent, runTold};
+ghost use Rattle.layout.specs.Board.{boardOf};
 ghost use Rattle.layout.specs.Registers.{registersLength, registersOf};
 ghost use Rattle.run.specs.Run.{runOf};
 use crate::answers;
 use layout::lent;
-use memory::Board;
 use refusal::Outcome;
 use refusal::Refusal;
 use run::Ending;
@@ -32,24 +32,24 @@ fn tell_step(q: StepAnswer, regs: &mut [u32], answer: &mut [u32]) -> u32
     }
 }
 
-fn step_lent(base: u32, rom: &[u8], ram: &mut [u8], regs: &mut [u32], answer: &mut [u32]) -> u32
+fn step_lent(board: &[u32], rom: &[u8], ram: &mut [u8], regs: &mut [u32], answer: &mut [u32]) -> u32
     requires { ⌜ (registersLength ≤ length (now regs)) × (4 ≤ length (now answer)) ⌝ }
-    ensures { λ n. ⌜ left n (now (ram .exit)) (now (regs .exit)) (now (answer .exit)) ≡ stepLent base (now (rom .entry)) (now (ram .entry)) (now (regs .entry)) (now (answer .entry)) ⌝ }
+    ensures { λ n. ⌜ left n (now (ram .exit)) (now (regs .exit)) (now (answer .exit)) ≡ stepLent (now (board .entry)) (now (rom .entry)) (now (ram .entry)) (now (regs .entry)) (now (answer .entry)) ⌝ }
 {
-    let b = Board { base: base };
+    let b = lent::board_in(board);
     let q = run::single(b, rom, ram, lent::registers_in(&regs[..]));
     tell_step(q, regs, answer)
 }
 
 #[no_mangle]
 pub extern "C" fn h8_step(
-    base: u32,
+    board: &[u32],
     rom: &[u8],
     ram: &mut [u8],
     regs: &mut [u32],
     answer: &mut [u32],
 ) -> u32
-    ensures { λ n. ⌜ left n (now (ram .exit)) (now (regs .exit)) (now (answer .exit)) ≡ stepCall base (now (rom .entry)) (now (ram .entry)) (now (regs .entry)) (now (answer .entry)) ⌝ }
+    ensures { λ n. ⌜ left n (now (ram .exit)) (now (regs .exit)) (now (answer .exit)) ≡ stepCall (now (board .entry)) (now (rom .entry)) (now (ram .entry)) (now (regs .entry)) (now (answer .entry)) ⌝ }
 {
     if answer.len() < 4 {
         return 13;
@@ -60,7 +60,7 @@ pub extern "C" fn h8_step(
     if 255 < lent::number_at(&regs[..], 9) {
         return answers::refused(answer, Refusal::BadBoard);
     }
-    step_lent(base, rom, ram, regs, answer)
+    step_lent(board, rom, ram, regs, answer)
 }
 
 fn tell_ending(why: Ending, steps: u32, states: u64, answer: &mut [u64]) -> u32
@@ -93,7 +93,7 @@ fn tell_run(q: RunAnswer, regs: &mut [u32], answer: &mut [u64]) -> u32
 }
 
 fn run_lent(
-    base: u32,
+    board: &[u32],
     rom: &[u8],
     ram: &mut [u8],
     regs: &mut [u32],
@@ -102,16 +102,16 @@ fn run_lent(
     answer: &mut [u64],
 ) -> u32
     requires { ⌜ (registersLength ≤ length (now regs)) × (6 ≤ length (now answer)) ⌝ }
-    ensures { λ n. ⌜ left n (now (ram .exit)) (now (regs .exit)) (now (answer .exit)) ≡ runLeft (runOf (board base) (now (rom .entry)) (now (ram .entry)) (registersOf (now (regs .entry))) stop budget) (now (regs .entry)) (now (answer .entry)) ⌝ }
+    ensures { λ n. ⌜ left n (now (ram .exit)) (now (regs .exit)) (now (answer .exit)) ≡ runLeft (runOf (boardOf (now (board .entry))) (now (rom .entry)) (now (ram .entry)) (registersOf (now (regs .entry))) stop budget) (now (regs .entry)) (now (answer .entry)) ⌝ }
 {
-    let b = Board { base: base };
+    let b = lent::board_in(board);
     let q = run::run(b, rom, ram, lent::registers_in(&regs[..]), stop, budget);
     tell_run(q, regs, answer)
 }
 
 #[no_mangle]
 pub extern "C" fn h8_run(
-    base: u32,
+    board: &[u32],
     rom: &[u8],
     ram: &mut [u8],
     regs: &mut [u32],
@@ -119,7 +119,7 @@ pub extern "C" fn h8_run(
     budget: u32,
     answer: &mut [u64],
 ) -> u32
-    ensures { λ n. ⌜ left n (now (ram .exit)) (now (regs .exit)) (now (answer .exit)) ≡ runCall base (now (rom .entry)) (now (ram .entry)) (now (regs .entry)) stop budget (now (answer .entry)) ⌝ }
+    ensures { λ n. ⌜ left n (now (ram .exit)) (now (regs .exit)) (now (answer .exit)) ≡ runCall (now (board .entry)) (now (rom .entry)) (now (ram .entry)) (now (regs .entry)) stop budget (now (answer .entry)) ⌝ }
 {
     if answer.len() < 6 {
         return 13;
@@ -138,5 +138,5 @@ pub extern "C" fn h8_run(
     if 255 < lent::number_at(&regs[..], 9) {
         return tell_ending(Ending::Halted(Refusal::BadBoard), 0, 0, answer);
     }
-    run_lent(base, rom, ram, regs, stop, budget, answer)
+    run_lent(board, rom, ram, regs, stop, budget, answer)
 }

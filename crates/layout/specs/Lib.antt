@@ -1,6 +1,7 @@
 pub mod Names
 pub mod Choices
 pub mod Rows
+pub mod Board
 pub mod Registers
 pub mod Lent
 pub mod MirrorChoices

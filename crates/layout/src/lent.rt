@@ -4,12 +4,16 @@ ghost use mathlib.Core.List.{[], _∷_};
 ghost use lib.ListN.{getD, set};
 ghost use lib.Seq.{sets};
 ghost use Rattle.layout.specs.Rows.{nine};
+ghost use Rattle.layout.specs.Board.{siteOf, boardOf};
 ghost use Rattle.layout.specs.Registers.{registersOf, tenOf};
 ghost use Rattle.layout.specs.MirrorLent.{rowIn};
 use crate::rows;
 use crate::rows::Row;
+use memory::Board;
 use registers::Condition;
 use registers::Registers;
+use site::Area;
+use site::Site;
 
 // How many numbers lent registers are; `registersLength` in the definitions, H8_REGISTERS in host/h8.h.
 pub const REGISTERS: usize = 10;
@@ -96,6 +100,28 @@ pub fn put_row(l: &mut [u32], f: Row, n: u32, s: u32)
     put(l, 6, f.reg);
     put(l, 7, n);
     put(l, 8, s)
+}
+
+// What a board has beside its memories.
+pub fn site_in(l: &[u32]) -> Site
+    ensures { λ r. ⌜ r ≡ siteOf (now (l .entry)) ⌝ }
+{
+    Site {
+        area: Area {
+            base: number_at(l, 1),
+            end: number_at(l, 2),
+            bus: number_at(l, 3),
+        },
+    }
+}
+
+pub fn board_in(l: &[u32]) -> Board
+    ensures { λ r. ⌜ r ≡ boardOf (now (l .entry)) ⌝ }
+{
+    Board {
+        base: number_at(l, 0),
+        site: site_in(l),
+    }
 }
 
 pub fn registers_in(l: &[u32]) -> Registers

@@ -1,4 +1,5 @@
 pub mod Parts
 pub mod Figures
 pub mod Places
+pub mod Ports
 pub mod Runs

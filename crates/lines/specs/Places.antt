@@ -5,11 +5,12 @@ use mathlib.Core.Bool.{Bool, cond}
 use mathlib.Core.List.{List, [], _++_}
 use lib.Dec.{eqb}
 use lib.ListN.{length, replicate}
-use Rattle.codes.specs.States.{statesOf}
 use Rattle.codes.specs.declared.Decoded.{Decoded}
 use Rattle.codes.specs.declared.Decoded.the-variants.{Code, NoCode}
 use Rattle.paths.specs.declared.Reckoned.{Reckoned}
 use Rattle.paths.specs.MirrorRows.{rowOf}
+use Rattle.site.specs.declared.Site.{Site}
+use Rattle.timing.specs.Made.{mostOf}
 use Rattle.listing.specs.Listing.{decodedAt}
 use Rattle.text.specs.Lines.{ascii}
 use Rattle.text.specs.Numbers.{placeOf, decimalOf}
@@ -21,35 +22,36 @@ abbrev pub lengthOf : Decoded → ℕ
 lengthOf (Code i n) = n % 256
 lengthOf (NoCode f) = 2
 
-abbrev pub countOf : Decoded → ℕ
-countOf (Code i n) = statesOf i
-countOf (NoCode f) = 0
+-- what the figure counts for it on boards that have the site k
+abbrev pub countOf : Site → Decoded → ℕ
+countOf k (Code i n) = mostOf k i
+countOf k (NoCode f) = 0
 
-abbrev pub statesWords : Decoded → List ℕ
-statesWords (Code i n) = decimalOf (statesOf i)
-statesWords (NoCode f) = ascii "-"
+abbrev pub statesWords : Site → Decoded → List ℕ
+statesWords k (Code i n) = decimalOf (mostOf k i)
+statesWords k (NoCode f) = ascii "-"
 
-abbrev pub statesPlain : Decoded → List ℕ
-statesPlain (Code i n) = numberLine (ascii "states") (statesOf i)
-statesPlain (NoCode f) = []
+abbrev pub statesPlain : Site → Decoded → List ℕ
+statesPlain k (Code i n) = numberLine (ascii "states") (mostOf k i)
+statesPlain k (NoCode f) = []
 
 -- a text with spaces up to the column k
 abbrev pub padTo : ℕ → List ℕ → List ℕ
 padTo k s = s ++ replicate (k - length s) (code " ")
 
-abbrev pub columnsText : List ℕ → ℕ → Decoded → List ℕ
-columnsText rom p d =
+abbrev pub columnsText : Site → List ℕ → ℕ → Decoded → List ℕ
+columnsText k rom p d =
     padTo 66
-    (padTo 58 (padTo 28 (padTo 10 (placeOf p) ++ bytesAt rom p (lengthOf d)) ++ foundText p d) ++ statesWords d)
+    (padTo 58 (padTo 28 (padTo 10 (placeOf p) ++ bytesAt rom p (lengthOf d)) ++ foundText p d) ++ statesWords k d)
 
-abbrev pub namedText : List ℕ → ℕ → Decoded → List ℕ
-namedText rom p d =
+abbrev pub namedText : Site → List ℕ → ℕ → Decoded → List ℕ
+namedText k rom p d =
     placeLine (ascii "place") p
-    ++ (ascii "bytes " ++ (bytesAt rom p (lengthOf d) ++ (ascii "\ntext " ++ (foundText p d ++ (ascii "\n" ++ statesPlain d)))))
+    ++ (ascii "bytes " ++ (bytesAt rom p (lengthOf d) ++ (ascii "\ntext " ++ (foundText p d ++ (ascii "\n" ++ statesPlain k d)))))
 
 -- all but what stands last
-unfoldable pub standingText : List ℕ → ℕ → Decoded → Bool → List ℕ
-standingText rom p d plain = cond plain (namedText rom p d) (columnsText rom p d)
+unfoldable pub standingText : Site → List ℕ → ℕ → Decoded → Bool → List ℕ
+standingText k rom p d plain = cond plain (namedText k rom p d) (columnsText k rom p d)
 
 unfoldable pub lastNumber : List ℕ → ℕ → Bool → List ℕ
 lastNumber name n plain = cond plain (numberLine name n) (decimalOf n ++ ascii "\n")
@@ -63,15 +65,15 @@ rowText r plain =
     cond (eqb (r .low) 16777215) (lastNumber (ascii "figure") (r .figure) plain) (lowestText (r .low % 16777216) plain)
 
 -- a place of a listing, by a table
-unfoldable pub listedText : List ℕ → List ℕ → ℕ → Bool → List ℕ
-listedText rom table p plain = standingText rom p (decodedAt rom p) plain ++ rowText (rowOf (length rom) table p) plain
+unfoldable pub listedText : Site → List ℕ → List ℕ → ℕ → Bool → List ℕ
+listedText k rom table p plain = standingText k rom p (decodedAt rom p) plain ++ rowText (rowOf (length rom) table p) plain
 
--- a place of a way, with the total of its states and those before it
-unfoldable pub onWayText : List ℕ → ℕ → ℕ → Bool → List ℕ
-onWayText rom p total plain = standingText rom p (decodedAt rom p) plain ++ lastNumber (ascii "total") total plain
+-- a place of a way, with the total of what the figure counts up to it
+unfoldable pub onWayText : Site → List ℕ → ℕ → ℕ → Bool → List ℕ
+onWayText k rom p total plain = standingText k rom p (decodedAt rom p) plain ++ lastNumber (ascii "total") total plain
 
-unfoldable pub totalOf : List ℕ → ℕ → ℕ → ℕ
-totalOf rom p before = (before + countOf (decodedAt rom p)) % 2 ^ 64
+unfoldable pub totalOf : Site → List ℕ → ℕ → ℕ → ℕ
+totalOf k rom p before = (before + countOf k (decodedAt rom p)) % 2 ^ 64
 
 -- above the columns
 unfoldable pub listHeading : Bool → List ℕ

@@ -16,15 +16,17 @@ use Rattle.text.specs.Lines.{ascii}
 use Rattle.text.specs.Numbers.{hexOf, placeOf, decimalOf}
 use Rattle.wording.specs.Refusals.{refusalText}
 use Rattle.lines.specs.declared.runs.Given.{Given}
+use Rattle.lines.specs.Ports.{areaFault}
 use Rattle.lines.specs.Parts.{numberLine, beforeText, refusedText}
 
--- which number of --ram makes the board wrong
+-- which number of --ram or --port makes the board wrong
 unfoldable pub ramFault : Given → List ℕ
 ramFault g =
     cond (eqb (g .base % 2) 1) (ascii "1: BASE of --ram is odd")
     (cond (eqb (g .length % 2) 1) (ascii "1: LENGTH of --ram is odd")
     (cond (ltb 16777216 (g .base + g .length)) (ascii "1: the working memory does not end at or below 0x1000000")
-    (ascii "1: BASE of --ram is below the end of the ROM")))
+    (cond (ltb (g .base) (g .code)) (ascii "1: BASE of --ram is below the end of the ROM")
+    (areaFault (g .area) (ascii "1: the ports are not inside the working memory")))))
 
 -- which argument does
 unfoldable pub boardFault : Given → List ℕ

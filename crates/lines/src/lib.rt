@@ -2,6 +2,7 @@
 mod figures;
 mod parts;
 mod places;
+mod ports;
 mod runs;
 
 pub use figures::Gap;
@@ -14,6 +15,7 @@ pub use places::listed;
 pub use places::on_way;
 pub use places::total;
 pub use places::way_heading;
+pub use ports::ports_wrong;
 pub use runs::Given;
 pub use runs::ran;
 pub use runs::registers;

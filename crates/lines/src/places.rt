@@ -7,6 +7,7 @@ ghost use Rattle.lines.specs.Places.{lengthOf, countOf, statesWords, sta
 use crate::parts;
 use codes::Decoded;
 use paths::Reckoned;
+use site::Site;
 use text::Line;
 
 const NONE: u64 = 16777215;
@@ -20,11 +21,11 @@ fn length(d: Decoded) -> u8
     }
 }
 
-fn count(d: Decoded) -> u32
-    ensures { λ r. ⌜ r ≡ countOf d ⌝ }
+fn count(k: Site, d: Decoded) -> u32
+    ensures { λ r. ⌜ r ≡ countOf k d ⌝ }
 {
     match d {
-        Decoded::Code(i, _) => codes::states(i),
+        Decoded::Code(i, _) => timing::parts::counted(k, i),
         Decoded::NoCode(_) => 0,
     }
 }
@@ -48,67 +49,67 @@ pub fn length_at(rom: &[u8], p: u32) -> u8
     length(d)
 }
 
-// The total of a way with the states of p.
-pub fn total(rom: &[u8], p: u32, before: u64) -> u64
-    ensures { λ r. ⌜ r ≡ totalOf (now (rom .entry)) p before ⌝ }
+// The total of a way with what the figure counts at p.
+pub fn total(k: Site, rom: &[u8], p: u32, before: u64) -> u64
+    ensures { λ r. ⌜ r ≡ totalOf k (now (rom .entry)) p before ⌝ }
 {
     let d = decoded(rom, p);
-    let n = count(d);
+    let n = count(k, d);
     std::num::wrapping_add_u64(before, n as u64)
 }
 
-fn states_words(l: Line, d: Decoded) -> Line
-    ensures { λ r. ⌜ Adds l (statesWords d) r ⌝ }
+fn states_words(l: Line, k: Site, d: Decoded) -> Line
+    ensures { λ r. ⌜ Adds l (statesWords k d) r ⌝ }
 {
     match d {
         Decoded::Code(i, _) => {
-            let n = codes::states(i);
+            let n = timing::parts::counted(k, i);
             text::decimal(l, n as u64)
         }
         Decoded::NoCode(_) => text::put(l, b'-'),
     }
 }
 
-fn states_plain(l: Line, d: Decoded) -> Line
-    ensures { λ r. ⌜ Adds l (statesPlain d) r ⌝ }
+fn states_plain(l: Line, k: Site, d: Decoded) -> Line
+    ensures { λ r. ⌜ Adds l (statesPlain k d) r ⌝ }
 {
     match d {
         Decoded::Code(i, _) => {
-            let n = codes::states(i);
+            let n = timing::parts::counted(k, i);
             parts::number(l, b"states", n as u64)
         }
         Decoded::NoCode(_) => text::bytes(l, b""),
     }
 }
 
-fn columns(rom: &[u8], p: u32, d: Decoded) -> Line
-    ensures { λ r. ⌜ Adds none (columnsText (now (rom .entry)) p d) r ⌝ }
+fn columns(k: Site, rom: &[u8], p: u32, d: Decoded) -> Line
+    ensures { λ r. ⌜ Adds none (columnsText k (now (rom .entry)) p d) r ⌝ }
 {
     let a = text::pad(text::place(text::blank(), p), 10);
     let n = length(d);
     let b = text::pad(wording::bytes(a, rom, p, n), 28);
     let c = text::pad(wording::found(b, p, d), 58);
-    text::pad(states_words(c, d), 66)
+    text::pad(states_words(c, k, d), 66)
 }
 
-fn named(l: Line, rom: &[u8], p: u32, d: Decoded) -> Line
-    ensures { λ r. ⌜ Adds l (namedText (now (rom .entry)) p d) r ⌝ }
+fn named(l: Line, k: Site, rom: &[u8], p: u32, d: Decoded) -> Line
+    ensures { λ r. ⌜ Adds l (namedText k (now (rom .entry)) p d) r ⌝ }
 {
     let a = parts::place(l, b"place", p);
     let n = length(d);
     let b = wording::bytes(text::bytes(a, b"bytes "), rom, p, n);
     let c = wording::found(text::bytes(b, b"\ntext "), p, d);
-    states_plain(text::bytes(c, b"\n"), d)
+    states_plain(text::bytes(c, b"\n"), k, d)
 }
 
 // All of a place but what stands last.
-fn standing(rom: &[u8], p: u32, d: Decoded, plain: bool) -> Line
-    ensures { λ r. ⌜ Adds none (standingText (now (rom .entry)) p d plain) r ⌝ }
+fn standing(k: Site, rom: &[u8], p: u32, d: Decoded, plain: bool) -> Line
+    ensures { λ r. ⌜ Adds none (standingText k (now (rom .entry)) p d plain) r ⌝ }
 {
     if plain {
-        named(text::blank(), rom, p, d)
+        named(text::blank(), k, rom, p, d)
     } else {
-        columns(rom, p, d)
+        columns(k, rom, p, d)
     }
 }
 
@@ -143,21 +144,21 @@ fn row(l: Line, r: Reckoned, plain: bool) -> Line
 }
 
 // A place of a listing, with the rows of a table that figure filled.
-pub fn listed(rom: &[u8], table: &[u64], p: u32, plain: bool) -> Line
-    ensures { λ r. ⌜ Adds none (listedText (now (rom .entry)) (now (table .entry)) p plain) r ⌝ }
+pub fn listed(k: Site, rom: &[u8], table: &[u64], p: u32, plain: bool) -> Line
+    ensures { λ r. ⌜ Adds none (listedText k (now (rom .entry)) (now (table .entry)) p plain) r ⌝ }
 {
     let d = decoded(rom, p);
-    let l = standing(rom, p, d, plain);
+    let l = standing(k, rom, p, d, plain);
     let r = paths::row_of(rom.len(), table, p);
     row(l, r, plain)
 }
 
 // A place of a way, with the total up to it.
-pub fn on_way(rom: &[u8], p: u32, total: u64, plain: bool) -> Line
-    ensures { λ r. ⌜ Adds none (onWayText (now (rom .entry)) p total plain) r ⌝ }
+pub fn on_way(k: Site, rom: &[u8], p: u32, total: u64, plain: bool) -> Line
+    ensures { λ r. ⌜ Adds none (onWayText k (now (rom .entry)) p total plain) r ⌝ }
 {
     let d = decoded(rom, p);
-    let l = standing(rom, p, d, plain);
+    let l = standing(k, rom, p, d, plain);
     last_number(l, b"total", total, plain)
 }
 

@@ -4,11 +4,13 @@ ghost use Prim.Native.Nat.{_≤_, _<_};
 ghost use Rattle.text.specs.Lines.{Adds};
 ghost use Rattle.lines.specs.Runs.{ramFault, boardFault, argumentText, wrongText, whyWords, whyPlain, toldWords, toldPlain, toldText, begun, haltedText, ranText, bitOf, flagText, flagsWords, flagsPlain, erText, fourText, registersWords, registersPlain, registersText, heldText};
 use crate::parts;
+use crate::ports;
 use refusal::Refusal;
 use registers::Condition;
 use registers::Registers;
 use run::Ending;
 use run::RunAnswer;
+use site::Area;
 use text::Line;
 
 // What was asked, for the words about it.
@@ -18,9 +20,12 @@ pub struct Given {
     pub length: u32,
     pub stop: u32,
     pub budget: u32,
+    pub area: Area,
+    // the ROM's length
+    pub code: u32,
 }
 
-// Which number of --ram makes the board wrong.
+// Which number of --ram or --port makes the board wrong.
 fn ram_fault(l: Line, g: Given) -> Line
     ensures { λ r. ⌜ Adds l (ramFault g) r ⌝ }
 {
@@ -38,7 +43,11 @@ fn ram_fault(l: Line, g: Given) -> Line
             b"1: the working memory does not end at or below 0x1000000",
         );
     }
-    text::bytes(l, b"1: BASE of --ram is below the end of the ROM")
+    if g.base < g.code {
+        text::bytes(l, b"1: BASE of --ram is below the end of the ROM")
+    } else {
+        ports::area_fault(l, g.area, b"1: the ports are not inside the working memory")
+    }
 }
 
 // Which argument makes the board wrong.

@@ -1,4 +1,5 @@
 pub mod Part
+pub mod Counted
 pub mod Words
 pub mod Listed
 pub mod Numbered

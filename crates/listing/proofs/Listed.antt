@@ -15,10 +15,13 @@ use Rattle.codes.specs.declared.Target.{Target}
 use Rattle.codes.specs.declared.Target.the-variants.{ByReg, Direct, Vector}
 use Rattle.codes.specs.declared.Decoded.{Decoded}
 use Rattle.codes.specs.declared.Decoded.the-variants.{Code, NoCode}
-use Rattle.codes.specs.States.{statesOf, goesOf}
+use Rattle.codes.specs.States.{goesOf}
 use Rattle.codes.specs.Exact.{Bytes, Decodes, accepted, cut-short, unheld}
-use Rattle.codes.proofs.Laws.{states-range, code-sized, bytes-drop}
+use Rattle.codes.proofs.Laws.{code-sized, bytes-drop}
 use Rattle.decoder.proofs.Laws.{exact}
+use Rattle.site.specs.declared.Site.{Site}
+use Rattle.timing.specs.Made.{mostOf}
+use Rattle.timing.proofs.Few.{most-few}
 use Rattle.flow.specs.Targets.{nextOf, targetOf}
 use Rattle.flow.proofs.Signed.{target-even, target-in}
 use Rattle.paths.specs.declared.Flow.{Flow}
@@ -56,10 +59,10 @@ abbrev EvenLength : Decoded → Type 0
 EvenLength (Code i n) = n % 2 ≡ 0
 EvenLength (NoCode r) = Unit {0}
 
-kept-found : (p : ℕ) → IsPlace p → (d : Decoded) → EvenLength d → Kept (foundFlow p d)
+kept-found : (k : Site) (p : ℕ) → IsPlace p → (d : Decoded) → EvenLength d → Kept (foundFlow k p d)
 unfolding foundFlow
-kept-found p z (Code i n) e = kept-goes p (nextOf p n) (statesOf i) (record { even = omega (arith, z .even); in-range = omega arith }) (omega (arith, states-range i)) (goesOf i)
-kept-found p z (NoCode r) e = record { ways = λ q w. absurd w; few = omega arith }
+kept-found k p z (Code i n) e = kept-goes p (nextOf p n) (mostOf k i) (record { even = omega (arith, z .even); in-range = omega arith }) (most-few k i) (goesOf i)
+kept-found k p z (NoCode r) e = record { ways = λ q w. absurd w; few = omega arith }
 
 even-of : {place : ℕ} {s : List ℕ} {d : Decoded} → Decodes place s d → EvenLength d
 even-of (accepted {i = i} v e b) = omega (arith, e, code-sized i v .even)
@@ -71,16 +74,16 @@ pub decoded-exact : (rom : List ℕ) (p : ℕ) → Bytes rom → Decodes p (drop
 unfolding decodedAt
 decoded-exact rom p b = exact p (drop p rom) (bytes-drop p rom b)
 
-kept-at : (rom : List ℕ) → Bytes rom → (p : ℕ) → IsPlace p → Kept (flowAt rom p)
+kept-at : (k : Site) (rom : List ℕ) → Bytes rom → (p : ℕ) → IsPlace p → Kept (flowAt k rom p)
 unfolding flowAt
-kept-at rom b p z = ⊎-elim (λ h. rw (le-leb (length rom) p h) (record { ways = λ q w. absurd w; few = omega arith })) (λ h. rw (lt-leb (length rom) p h) (kept-found p z (decodedAt rom p) (even-of (decoded-exact rom p b)))) (le-or (length rom) p)
+kept-at k rom b p z = ⊎-elim (λ h. rw (le-leb (length rom) p h) (record { ways = λ q w. absurd w; few = omega arith })) (λ h. rw (lt-leb (length rom) p h) (kept-found k p z (decodedAt rom p) (even-of (decoded-exact rom p b)))) (le-or (length rom) p)
 
-pub listing : (rom : List ℕ) → Bytes rom → length rom % 2 ≡ 0 → length rom ≤ 524288 → Listing (flowAt rom) (length rom)
+pub listing : (k : Site) (rom : List ℕ) → Bytes rom → length rom % 2 ≡ 0 → length rom ≤ 524288 → Listing (flowAt k rom) (length rom)
 unfolding flowAt
-listing rom b even small = record {
+listing k rom b even small = record {
   small = small;
   even-length = even;
   outside = λ p h. rw (le-leb (length rom) p h);
-  ways = λ p q z w. kept-at rom b p z .ways q w;
-  few = λ p z. kept-at rom b p z .few;
+  ways = λ p q z w. kept-at k rom b p z .ways q w;
+  few = λ p z. kept-at k rom b p z .few;
 }

@@ -20,8 +20,10 @@ use Rattle.codes.specs.declared.Target.{Target}
 use Rattle.codes.specs.declared.Target.the-variants.{ByReg, Direct, Vector}
 use Rattle.codes.specs.declared.Decoded.{Decoded}
 use Rattle.codes.specs.declared.Decoded.the-variants.{Code, NoCode}
-use Rattle.codes.specs.States.{statesOf, goesOf}
+use Rattle.codes.specs.States.{goesOf}
 use Rattle.decoder.proofs.Laws.{refused-at}
+use Rattle.site.specs.declared.Site.{Site}
+use Rattle.timing.specs.Made.{mostOf}
 use Rattle.flow.specs.Targets.{nextOf, targetOf}
 use Rattle.paths.specs.declared.Flow.{Flow}
 use Rattle.paths.specs.declared.Flow.the-variants.{Next, Jump, Either, Ends, Stop}
@@ -76,19 +78,19 @@ says-goes p n s (CallsNear reach) = not-followed p
 says-goes p n s (Calls target) = not-followed p
 says-goes p n s Returns = tt
 
-says-found : (p g : ℕ) → p < 16777216 → (d : Decoded) → ((r : Refusal) → d ≡ NoCode r → (r ≡ CutShort p) ⊎ (r ≡ unheldOf p g)) → Says p (foundFlow p d)
+says-found : (k : Site) (p g : ℕ) → p < 16777216 → (d : Decoded) → ((r : Refusal) → d ≡ NoCode r → (r ≡ CutShort p) ⊎ (r ≡ unheldOf p g)) → Says p (foundFlow k p d)
 unfolding foundFlow
-says-found p g l (Code i n) h = says-goes p (nextOf p n) (statesOf i) (goesOf i)
-says-found p g l (NoCode r) h = ⊎-elim (λ e. rw e (short p)) (λ e. rw e (unheld p g l)) (h r refl)
+says-found k p g l (Code i n) h = says-goes p (nextOf p n) (mostOf k i) (goesOf i)
+says-found k p g l (NoCode r) h = ⊎-elim (λ e. rw e (short p)) (λ e. rw e (unheld p g l)) (h r refl)
 
 refused-decoded : (rom : List ℕ) (p : ℕ) (r : Refusal) → decodedAt rom p ≡ NoCode r → (r ≡ CutShort p) ⊎ (r ≡ unheldOf p (groupIn leftOut (drop p rom)))
 unfolding decodedAt
 refused-decoded rom p r e = refused-at p (drop p rom) r e
 
-says-at : (rom : List ℕ) (p : ℕ) → p < 16777216 → Says p (flowAt rom p)
+says-at : (k : Site) (rom : List ℕ) (p : ℕ) → p < 16777216 → Says p (flowAt k rom p)
 unfolding flowAt
-says-at rom p l = ⊎-elim (λ h. rw (le-leb (length rom) p h) (outside p)) (λ h. rw (lt-leb (length rom) p h) (says-found p _ l (decodedAt rom p) (refused-decoded rom p))) (le-or (length rom) p)
+says-at k rom p l = ⊎-elim (λ h. rw (le-leb (length rom) p h) (outside p)) (λ h. rw (lt-leb (length rom) p h) (says-found k p _ l (decodedAt rom p) (refused-decoded rom p))) (le-or (length rom) p)
 
-pub forbidden-named : (rom : List ℕ) {p : ℕ} {r : Refusal} → p < 16777216 → Forbidden (flowAt rom) p r → Named p r
-forbidden-named rom {p} l (stop e) = subst (λ (f : Flow). Says p f) e (says-at rom p l)
-forbidden-named rom {p} l (back w h) = not-upward p
+pub forbidden-named : (k : Site) (rom : List ℕ) {p : ℕ} {r : Refusal} → p < 16777216 → Forbidden (flowAt k rom) p r → Named p r
+forbidden-named k rom {p} l (stop e) = subst (λ (f : Flow). Says p f) e (says-at k rom p l)
+forbidden-named k rom {p} l (back w h) = not-upward p

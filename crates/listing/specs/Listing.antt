@@ -5,7 +5,7 @@ use Prim.Native.Nat.{ℕ}
 use lib.ListN.{length, drop}
 use lib.Dec.{leb, eqb}
 use Rattle.refusal.specs.declared.Refusal.the-variants.{FetchOutside, NotFollowed}
-use Rattle.codes.specs.States.{statesOf, goesOf}
+use Rattle.codes.specs.States.{goesOf}
 use Rattle.codes.specs.declared.Goes.{Goes}
 use Rattle.codes.specs.declared.Goes.the-variants.{Onward, Branches, Jumps, CallsNear, Calls, Returns}
 use Rattle.codes.specs.declared.Target.{Target}
@@ -14,6 +14,8 @@ use Rattle.codes.specs.declared.Decoded.{Decoded}
 use Rattle.codes.specs.declared.Decoded.the-variants.{Code, NoCode}
 use Rattle.decoder.specs.MirrorDecode.{decodeOf}
 use Rattle.registers.specs.Parts.{pcOf}
+use Rattle.site.specs.declared.Site.{Site}
+use Rattle.timing.specs.Made.{mostOf}
 use Rattle.flow.specs.Targets.{nextOf, targetOf}
 use Rattle.paths.specs.declared.Flow.{Flow}
 use Rattle.paths.specs.declared.Flow.the-variants.{Next, Jump, Either, Ends, Stop}
@@ -37,9 +39,10 @@ goesFlow p next s (CallsNear reach) = Stop (NotFollowed p)
 goesFlow p next s (Calls target) = Stop (NotFollowed p)
 goesFlow p next s Returns = Ends s
 
-unfoldable pub foundFlow : ℕ → Decoded → Flow
-foundFlow p (Code i n) = goesFlow p (nextOf p n) (statesOf i) (goesOf i)
-foundFlow p (NoCode r) = Stop r
+-- with the site k an instruction counts the most that it takes on any board that has it
+unfoldable pub foundFlow : Site → ℕ → Decoded → Flow
+foundFlow k p (Code i n) = goesFlow p (nextOf p n) (mostOf k i) (goesOf i)
+foundFlow k p (NoCode r) = Stop r
 
 -- "a place decodes the bytes from its address to the end of that memory". `decodeOf` is the decoder's answer, the only one that `Decodes` of the
 -- code list allows: `decoded-exact` of `proofs/Listed.antt`, `decodes-one` of the decoder's laws
@@ -47,5 +50,5 @@ unfoldable pub decodedAt : List ℕ → ℕ → Decoded
 decodedAt rom p = decodeOf p (drop p rom)
 
 -- what stands at the place p
-unfoldable pub flowAt : List ℕ → ℕ → Flow
-flowAt rom p = cond (leb (length rom) p) (Stop (FetchOutside p)) (foundFlow p (decodedAt rom p))
+unfoldable pub flowAt : Site → List ℕ → ℕ → Flow
+flowAt k rom p = cond (leb (length rom) p) (Stop (FetchOutside p)) (foundFlow k p (decodedAt rom p))

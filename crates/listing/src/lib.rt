@@ -1,13 +1,18 @@
 // Where paths go from each place of read-only memory: document 01, "The routine's figure".
+use arith::Width;
 use codes::Instruction;
 use codes::Reach;
 use codes::Target;
 use decoder::whole::Found;
 use paths::Flow;
 use refusal::Refusal;
+use site::Site;
 ghost use mathlib.Core.Path.{_≡_};
+ghost use Prim.Native.Nat.{_+_, _*_, _<_};
 ghost use Rattle.codes.specs.declared.Decoded.the-variants.{Code};
-ghost use Rattle.paths.specs.declared.Flow.the-variants.{Next};
+ghost use Rattle.codes.specs.declared.Instruction.the-variants.{Rts};
+ghost use Rattle.paths.specs.declared.Flow.the-variants.{Next, Ends};
+ghost use Rattle.timing.specs.Made.{mostOf};
 ghost use Rattle.decoder.specs.MirrorWords.{row0, row1, row6, planOf};
 ghost use Rattle.listing.specs.MirrorGlance.{Told};
 ghost use Rattle.listing.specs.Listing.{branchFlow, jumpFlow, foundFlow, flowAt};
@@ -40,9 +45,16 @@ fn onward(next: u32, s: u32) -> Flow
     Flow::Next(next, s as u64)
 }
 
+fn returns(k: Site) -> Flow
+    ensures { λ r. ⌜ r ≡ Ends (mostOf k Rts) ⌝ }
+{
+    let s = timing::parts::rts(k);
+    Flow::Ends(s as u64)
+}
+
 // An instruction of n bytes at p. Its parts are looked at here, where the decoder has left them: to hand them on whole is to copy them.
-fn found(p: u32, i: Instruction, n: usize) -> Flow
-    ensures { λ r. ⌜ r ≡ foundFlow p (Code i n) ⌝ }
+fn found(k: Site, p: u32, i: Instruction, n: usize) -> Flow
+    ensures { λ r. ⌜ r ≡ foundFlow k p (Code i n) ⌝ }
 {
     let next = flow::next(p, n);
     match i {
@@ -58,23 +70,23 @@ fn found(p: u32, i: Instruction, n: usize) -> Flow
         Instruction::Unary(_, _, _) => onward(next, 2),
         Instruction::Multiply(sign, h, _, _) => onward(next, codes::product_states(sign, h)),
         Instruction::Divide(sign, h, _, _) => onward(next, codes::product_states(sign, h)),
-        Instruction::Takes(_, _, spot) => onward(next, codes::read_bit_states(spot)),
-        Instruction::Gives(_, _, spot) => onward(next, codes::written_bit_states(spot)),
-        Instruction::Move(_, w, place, _) => onward(next, codes::move_states(w, place)),
+        Instruction::Takes(_, _, spot) => onward(next, timing::parts::read_bit(k, spot)),
+        Instruction::Gives(_, _, spot) => onward(next, timing::parts::written_bit(k, spot)),
+        Instruction::Move(_, w, place, _) => onward(next, timing::parts::moved(k, w, place)),
         Instruction::Bcc(c, reach) => match reach {
             Reach::Near(d) => branch(c, next, flow::target(next, Reach::Near(d)), 4),
             Reach::Far(d) => branch(c, next, flow::target(next, Reach::Far(d)), 6),
         },
-        Instruction::Jmp(to) => jump(p, to, codes::jmp_states(to) as u64),
+        Instruction::Jmp(to) => jump(p, to, 6),
         Instruction::Bsr(_) => Flow::Stop(Refusal::NotFollowed(p)),
         Instruction::Jsr(_) => Flow::Stop(Refusal::NotFollowed(p)),
-        Instruction::Rts => Flow::Ends(10),
+        Instruction::Rts => returns(k),
     }
 }
 
-// What stands at the place p of the read-only memory `rom`.
-pub fn flow_at(rom: &[u8], p: u32) -> Flow
-    ensures { λ r. ⌜ r ≡ flowAt (now (rom .entry)) p ⌝ }
+// What stands at the place p of the read-only memory `rom`, by what it takes at most on a board that has the site k.
+pub fn flow_at(k: Site, rom: &[u8], p: u32) -> Flow
+    ensures { λ r. ⌜ r ≡ flowAt k (now (rom .entry)) p ⌝ }
 {
     let at = p as usize;
     if rom.len() <= at {
@@ -82,15 +94,16 @@ pub fn flow_at(rom: &[u8], p: u32) -> Flow
     }
     let s = &rom[at..];
     match decoder::whole::begins(s) {
-        Found::Is(i, n) => found(p, i, n),
+        Found::Is(i, n) => found(k, p, i, n),
         Found::Cut => Flow::Stop(Refusal::CutShort(p)),
         Found::Unlisted => Flow::Stop(left::unheld(s, p)),
     }
 }
 
-// The states of a code of one word that goes on, by the lower digit of its first byte; 0 where the second byte counts too.
-fn told_by_0(lo: u8) -> u64
-    ensures { λ s. ⌜ Told s (row0 lo) ⌝ }
+// The states of a code of one word that goes on, by the lower digit of its first byte; 0 where the second byte counts too, as it does for an
+// absolute address.
+fn told_by_0(k: Site, lo: u8) -> u32
+    ensures { λ s. ⌜ Told k s (row0 lo) ⌝ }
 {
     match lo {
         0x4 => 2,
@@ -106,8 +119,8 @@ fn told_by_0(lo: u8) -> u64
     }
 }
 
-fn told_by_1(lo: u8) -> u64
-    ensures { λ s. ⌜ Told s (row1 lo) ⌝ }
+fn told_by_1(k: Site, lo: u8) -> u32
+    ensures { λ s. ⌜ Told k s (row1 lo) ⌝ }
 {
     match lo {
         0x4 => 2,
@@ -122,47 +135,47 @@ fn told_by_1(lo: u8) -> u64
     }
 }
 
-fn told_by_6(lo: u8) -> u64
-    ensures { λ s. ⌜ Told s (row6 lo) ⌝ }
+fn told_by_6(k: Site, lo: u8) -> u32
+    ensures { λ s. ⌜ Told k s (row6 lo) ⌝ }
 {
     match lo {
         0x4 => 2,
         0x5 => 2,
         0x6 => 2,
-        0x8 => 4,
-        0x9 => 4,
-        0xC => 6,
-        0xD => 6,
+        0x8 => 2 + timing::dearest(k, Width::Byte),
+        0x9 => 2 + timing::dearest(k, Width::Word),
+        0xC => 4 + timing::dearest(k, Width::Byte),
+        0xD => 4 + timing::dearest(k, Width::Word),
         _ => 0,
     }
 }
 
-fn told_by(a: u8) -> u64
-    ensures { λ s. ⌜ Told s (planOf a) ⌝ }
+fn told_by(k: Site, a: u8) -> u32
+    ensures { λ s. ⌜ Told k s (planOf a) ⌝ }
 {
     match a / 16 {
-        0x0 => told_by_0(a % 16),
-        0x1 => told_by_1(a % 16),
-        0x2 => 4,
-        0x3 => 4,
+        0x0 => told_by_0(k, a % 16),
+        0x1 => told_by_1(k, a % 16),
+        0x2 => 0,
+        0x3 => 0,
         0x4 => 0,
         0x5 => 0,
-        0x6 => told_by_6(a % 16),
+        0x6 => told_by_6(k, a % 16),
         0x7 => 0,
         _ => 2,
     }
 }
 
 // `flow_at`, for whoever looks at place after place: a short branch, and most codes of one word, need no decoding.
-pub fn glance(rom: &[u8], p: u32) -> Flow
-    ensures { λ r. ⌜ r ≡ flowAt (now (rom .entry)) p ⌝ }
+pub fn glance(k: Site, rom: &[u8], p: u32) -> Flow
+    ensures { λ r. ⌜ r ≡ flowAt k (now (rom .entry)) p ⌝ }
 {
     let at = p as usize;
     if rom.len() <= at {
-        return flow_at(rom, p);
+        return flow_at(k, rom, p);
     }
     if rom.len() - at < 2 {
-        return flow_at(rom, p);
+        return flow_at(k, rom, p);
     }
     let a = rom[at];
     let next = flow::next(p, 2);
@@ -174,9 +187,9 @@ pub fn glance(rom: &[u8], p: u32) -> Flow
             4,
         );
     }
-    let s = told_by(a);
+    let s = told_by(k, a);
     if s == 0 {
-        return flow_at(rom, p);
+        return flow_at(k, rom, p);
     }
-    Flow::Next(next, s)
+    onward(next, s)
 }

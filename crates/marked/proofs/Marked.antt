@@ -8,6 +8,9 @@ use Rattle.registers.specs.Parts.{partOf, insertOf, withPart}
 use Rattle.memory.specs.Board.{goodBoard}
 use Rattle.memory.specs.Access.{inside, readPart, readOf, written, writeWord, writeOf}
 use Rattle.operate.specs.Operate.{sourceOf, operatedOf, aluOf, carriedOf, rowOf, addedOf, adjustedOf, decimalOf}
+use Rattle.site.specs.Costs.{costOf}
+use Rattle.timing.specs.Made.{madeAt, baseOf}
+use Rattle.moves.specs.Made.{statesAt}
 use Rattle.moves.specs.Moves.{addressOf, stepOver, loadedOf, loadOf, storedOf, storeOf}
 use Rattle.flow.specs.Targets.{targetOf}
 use Rattle.step.specs.Follow.{evenCondition, holdsOf, followOf}
@@ -17,7 +20,7 @@ use Rattle.figure.proofs.Examples.{example10, example10-2, example11, example12
 use Rattle.marked.specs.Rows.{All, rows}
 
 pub marked : All rows
-unfolding xor signedOf fitsIn movedOf addOf subOf findRow adjustOf partOf insertOf withPart goodBoard inside readPart readOf written writeWord writeOf sourceOf operatedOf aluOf carriedOf rowOf addedOf adjustedOf decimalOf addressOf stepOver loadedOf loadOf storedOf storeOf targetOf evenCondition holdsOf followOf transferOf effectOf finishOf carryOf obeyOf actOf fetchOf stepOf runFrom runOf
+unfolding xor signedOf fitsIn movedOf addOf subOf findRow adjustOf partOf insertOf withPart goodBoard inside readPart readOf written writeWord writeOf costOf madeAt baseOf statesAt sourceOf operatedOf aluOf carriedOf rowOf addedOf adjustedOf decimalOf addressOf stepOver loadedOf loadOf storedOf storeOf targetOf evenCondition holdsOf followOf transferOf effectOf finishOf carryOf obeyOf actOf fetchOf stepOf runFrom runOf
 marked = (
   refl,
   (

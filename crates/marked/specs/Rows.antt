@@ -8,6 +8,8 @@ use Rattle.refusal.specs.declared.Outcome.{Outcome}
 use Rattle.refusal.specs.declared.Outcome.the-variants.{Done, Refused}
 use Rattle.registers.specs.declared.Registers.{Registers}
 use Rattle.registers.specs.Condition.{conditionOf}
+use Rattle.memory.specs.Board.{plainBoard}
+use Rattle.memory.specs.declared.Board.{Board}
 use Rattle.step.specs.Step.{after, answered, stepOf}
 use Rattle.run.specs.Run.{ran, told, runOf}
 use Rattle.run.specs.declared.Ending.the-variants.{Spent}
@@ -27,12 +29,16 @@ pub data Row : Type 0 where
   -- the figure: read-only bytes, the entry, the lent table before; the answer, and the table after
   figures : List ℕ → ℕ → List ℕ → Verdict → List ℕ → Row
 
+-- without ports: the area is empty, at FFEF10
+abbrev pub board : Board
+board = plainBoard 0xFFEF10
+
 abbrev pub Holds : Row → Type 0
 Holds (one-step rom r ram q states outcome mem) =
-    stepOf (record { base = 0xFFEF10 }) rom ram r ≡ after (answered q states outcome) mem
+    stepOf board rom ram r ≡ after (answered q states outcome) mem
 Holds (two-steps rom r q states) =
-    runOf (record { base = 0xFFEF10 }) rom [] r 0xFFFFFF 2 ≡ ran (told q 2 states Spent) []
-Holds (figures rom entry before answer table) = Figured rom entry before answer table
+    runOf board rom [] r 0xFFFFFF 2 ≡ ran (told q 2 states Spent) []
+Holds (figures rom entry before answer table) = Figured (board .site) rom entry before answer table
 
 abbrev pub All : List Row → Type 0
 All [] = Unit {0}

@@ -2,4 +2,5 @@ mod Cases
 mod Reading
 mod Storing
 pub mod Laws
+pub mod Carried
 mod Edges

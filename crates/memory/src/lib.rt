@@ -1,19 +1,22 @@
 // The board, and data accesses to its memories: read-only memory from 0, working memory from its base.
-// `specs/Board.antt` and `specs/Access.antt` have document 01's words for both, one definition a function.
+// `specs/Board.antt` and `specs/Access.antt` have the documents' words for both, one definition a function.
 use arith::Width;
 use refusal::Refusal;
+use site::Area;
+use site::Site;
 ghost use mathlib.Core.Path.{_≡_};
 ghost use Prim.Native.Nat.{_+_, _<_};
 ghost use lib.ListN.{length};
-ghost use Rattle.memory.specs.Board.{goodBoard};
+ghost use Rattle.memory.specs.Board.{goodCode, rightArea, goodArea, goodBoard, plainBoard, couldCarry};
 ghost use Rattle.memory.specs.Access.{address, evenAddress, secondAddress, inside, byteAt, wordAt};
 ghost use Rattle.memory.specs.Access.{readByte, readWord, readLong, readOf};
 ghost use Rattle.memory.specs.Access.{putByte, putWord, writeByte, writeWord, writeLong, writeOf, wrote};
 ghost use Rattle.memory.specs.Mirror.{Number, Found};
 
-// Where working memory begins. The lengths are those of the slices lent beside it.
+// Where working memory begins, and what the board has beside its memories. The lengths are those of the slices lent beside it.
 pub struct Board {
     pub base: u32,
+    pub site: Site,
 }
 
 pub enum Got {
@@ -26,35 +29,85 @@ pub enum Put {
     NotStored(Refusal),
 }
 
+// A board without ports.
+pub fn plain(base: u32) -> Board
+    ensures { λ r. ⌜ r ≡ plainBoard base ⌝ }
+{
+    Board {
+        base,
+        site: Site {
+            area: Area {
+                base,
+                end: base,
+                bus: 8,
+            },
+        },
+    }
+}
+
+fn good_code(rom: &[u8]) -> bool
+    ensures { λ r. ⌜ r ≡ goodCode (length (now (rom .entry))) ⌝ }
+{
+    (rom.len() % 2 == 0) & (rom.len() <= 524288)
+}
+
+fn right_area(a: Area) -> bool
+    ensures { λ r. ⌜ r ≡ rightArea a ⌝ }
+{
+    ((a.bus == 8) | (a.bus == 16)) & (a.base % 2 == 0) & (a.end % 2 == 0) & (a.base <= a.end)
+}
+
+// Whether an area is right and lies in the working memory that begins at base.
+fn good_area(a: Area, base: u32, ram: &[u8]) -> bool
+    ensures { λ r. ⌜ r ≡ goodArea a base (length (now (ram .entry))) ⌝ }
+{
+    let from = base as usize;
+    let end = a.end as usize;
+    right_area(a) & (base <= a.base) & (end <= from + ram.len())
+}
+
 pub fn good_board(b: Board, rom: &[u8], ram: &[u8]) -> bool
     ensures { λ r. ⌜ r ≡ goodBoard b (length (now (rom .entry))) (length (now (ram .entry))) ⌝ }
 {
     let base = b.base as usize;
-    (rom.len() % 2 == 0)
-        & (rom.len() <= 524288)
+    good_code(rom)
         & (ram.len() % 2 == 0)
         & (ram.len() <= 65536)
         & (base % 2 == 0)
         & (rom.len() <= base)
         & (base + ram.len() <= 16777216)
+        & good_area(b.site.area, b.base, ram)
+}
+
+// Whether some good board with that code has the site.
+pub fn could_carry(k: Site, rom: &[u8]) -> bool
+    ensures { λ r. ⌜ r ≡ couldCarry k (length (now (rom .entry))) ⌝ }
+{
+    let base = k.area.base as usize;
+    let end = k.area.end as usize;
+    good_code(rom)
+        & right_area(k.area)
+        & (rom.len() <= base)
+        & (end <= 16777216)
+        & (end <= base + 65536)
 }
 
 // The place of a byte.
-fn address(a: u32) -> u32
+pub fn address(a: u32) -> u32
     ensures { λ r. ⌜ r ≡ address a ⌝ }
 {
     a % 16777216
 }
 
 // The place of a word.
-fn even_address(a: u32) -> u32
+pub fn even_address(a: u32) -> u32
     ensures { λ r. ⌜ r ≡ evenAddress a ⌝ }
 {
     address(a) / 2 * 2
 }
 
 // The place of the second word of a longword.
-fn second_address(a: u32) -> u32
+pub fn second_address(a: u32) -> u32
     ensures { λ r. ⌜ r ≡ secondAddress a ⌝ }
 {
     address(even_address(a) + 2)

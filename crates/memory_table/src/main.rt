@@ -1,10 +1,13 @@
 // Data accesses at the edges, one a line: the access as it was asked for, then the value or the refusal's number and place,
-// and after a write the bytes of working memory. `stdout` was worked out by hand from document 01.
+// and after a write the bytes of working memory; then boards, areas on boards, and sites by themselves, right and wrong.
+// `stdout` was worked out by hand from document 01, and for the areas from document 02, W5.
 use arith::Width;
 use memory::Board;
 use memory::Got;
 use memory::Put;
 use refusal::Refusal;
+use site::Area;
+use site::Site;
 
 fn show_width(w: Width) {
     match w {
@@ -45,7 +48,7 @@ fn try_read(w: Width, base: u32, rom: &[u8], ram: &[u8], a: u32) {
     io::write_all(1, b"read ");
     show_width(w);
     io::print_hex(1, a as u64, 8);
-    match memory::read(w, Board { base }, rom, ram, a) {
+    match memory::read(w, memory::plain(base), rom, ram, a) {
         Got::Value(x) => {
             io::write_all(1, b": ");
             io::print_hex(1, x as u64, digits(w));
@@ -61,7 +64,7 @@ fn try_write(w: Width, base: u32, ram: &mut [u8], a: u32, x: u32) {
     io::print_hex(1, a as u64, 8);
     io::write_all(1, b" ");
     io::print_hex(1, x as u64, 8);
-    match memory::write(w, Board { base }, ram, a, x) {
+    match memory::write(w, memory::plain(base), ram, a, x) {
         Put::Stored => {
             io::write_all(1, b": stored");
         }
@@ -72,18 +75,58 @@ fn try_write(w: Width, base: u32, ram: &mut [u8], a: u32, x: u32) {
     io::write_all(1, b"\n");
 }
 
-fn try_board(base: u32, rom: &[u8], ram: &[u8]) {
+fn show_board(base: u32, rom: &[u8], ram: &[u8]) {
     io::write_all(1, b"board ");
     io::print_hex(1, base as u64, 8);
     io::write_all(1, b" ");
     io::print_decimal(1, rom.len() as u64);
     io::write_all(1, b" ");
     io::print_decimal(1, ram.len() as u64);
-    if memory::good_board(Board { base }, rom, ram) {
+}
+
+fn show_verdict(good: bool) {
+    if good {
         io::write_all(1, b": good\n");
     } else {
         io::write_all(1, b": wrong\n");
     }
+}
+
+fn try_board(base: u32, rom: &[u8], ram: &[u8]) {
+    show_board(base, rom, ram);
+    show_verdict(memory::good_board(memory::plain(base), rom, ram));
+}
+
+fn ports(base: u32, end: u32, bus: u32) -> Site {
+    Site {
+        area: Area { base, end, bus },
+    }
+}
+
+fn show_site(k: Site) {
+    io::print_hex(1, k.area.base as u64, 8);
+    io::write_all(1, b" ");
+    io::print_hex(1, k.area.end as u64, 8);
+    io::write_all(1, b" ");
+    io::print_decimal(1, k.area.bus as u64);
+}
+
+fn try_area(from: u32, end: u32, bus: u32, base: u32, rom: &[u8], ram: &[u8]) {
+    let site = ports(from, end, bus);
+    io::write_all(1, b"area ");
+    show_site(site);
+    io::write_all(1, b", ");
+    show_board(base, rom, ram);
+    show_verdict(memory::good_board(Board { base, site }, rom, ram));
+}
+
+fn try_site(from: u32, end: u32, bus: u32, rom: &[u8]) {
+    let site = ports(from, end, bus);
+    io::write_all(1, b"site ");
+    show_site(site);
+    io::write_all(1, b", code ");
+    io::print_decimal(1, rom.len() as u64);
+    show_verdict(memory::could_carry(site, rom));
 }
 
 // Read-only memory 000000 to 000005, working memory FFEF10 to FFEF15.
@@ -193,6 +236,111 @@ fn large_boards() {
     try_board(base, &code, &long_data);
 }
 
+// Working memory 001000 to 00100F.
+fn areas() {
+    let rom = [0u8; 4];
+    let ram = [0u8; 16];
+    right_areas(0x1000, &rom, &ram);
+    wrong_areas(0x1000, &rom, &ram);
+    wrong_widths(0x1000, &rom, &ram);
+}
+
+fn right_areas(base: u32, rom: &[u8], ram: &[u8]) {
+    try_area(0x1000, 0x1010, 8, base, rom, ram);
+    try_area(0x1000, 0x1010, 16, base, rom, ram);
+    try_area(0x1004, 0x1006, 16, base, rom, ram);
+    try_area(0x1000, 0x1000, 8, base, rom, ram);
+    try_area(0x1006, 0x1006, 8, base, rom, ram);
+    try_area(0x1010, 0x1010, 8, base, rom, ram);
+}
+
+// Each is wrong in one thing.
+fn wrong_areas(base: u32, rom: &[u8], ram: &[u8]) {
+    try_area(0x0FFE, 0x0FFE, 8, base, rom, ram);
+    try_area(0x1012, 0x1012, 8, base, rom, ram);
+    try_area(0x0FFE, 0x1004, 8, base, rom, ram);
+    try_area(0x100C, 0x1012, 8, base, rom, ram);
+    try_area(0x1001, 0x1004, 8, base, rom, ram);
+    try_area(0x1004, 0x1007, 8, base, rom, ram);
+    try_area(0x1008, 0x1006, 8, base, rom, ram);
+    try_area(0x01001000, 0x01001004, 8, base, rom, ram);
+    try_area(0x1004, 0xFFFFFFFE, 8, base, rom, ram);
+}
+
+fn wrong_widths(base: u32, rom: &[u8], ram: &[u8]) {
+    try_area(0x1004, 0x1006, 0, base, rom, ram);
+    try_area(0x1004, 0x1006, 1, base, rom, ram);
+    try_area(0x1004, 0x1006, 9, base, rom, ram);
+    try_area(0x1004, 0x1006, 15, base, rom, ram);
+    try_area(0x1004, 0x1006, 24, base, rom, ram);
+    try_area(0x1004, 0x1006, 32, base, rom, ram);
+    try_area(0x1000, 0x1000, 0, base, rom, ram);
+}
+
+// Where working memory is empty, ends at 2^24, begins where read-only memory ends, or is as long as it may be.
+fn areas_at_the_limits() {
+    let none = [0u8; 0];
+    let four = [0u8; 4];
+    let data = [0u8; 65536];
+    try_area(0x1000, 0x1000, 8, 0x1000, &four, &none);
+    try_area(0x1000, 0x1002, 8, 0x1000, &four, &none);
+    try_area(0xFFFFFC, 0x1000000, 8, 0xFFFFFC, &four, &four);
+    try_area(0x1000000, 0x1000000, 8, 0xFFFFFC, &four, &four);
+    try_area(0x1000000, 0x1000000, 8, 0x1000000, &four, &none);
+    try_area(0x0004, 0x0008, 16, 4, &four, &four);
+    try_area(0x0002, 0x0006, 16, 4, &four, &four);
+    try_area(0x0004, 0x0006, 16, 2, &four, &four);
+    try_area(0x100000, 0x110000, 16, 0x100000, &four, &data);
+    try_area(0x100000, 0x110002, 16, 0x100000, &four, &data);
+}
+
+// A site needs no more working memory than its area.
+fn sites_with_short_code() {
+    let none = [0u8; 0];
+    let three = [0u8; 3];
+    let four = [0u8; 4];
+    try_site(0x0000, 0x0000, 8, &none);
+    try_site(0x1004, 0x1006, 8, &three);
+    at_the_end_of_code(&four);
+    at_the_end_of_places(&four);
+    wrong_sites(&four);
+}
+
+fn at_the_end_of_code(four: &[u8]) {
+    try_site(0x0004, 0x0004, 8, four);
+    try_site(0x0002, 0x0002, 8, four);
+    try_site(0x0002, 0x0006, 8, four);
+    try_site(0x0004, 0x10004, 16, four);
+    try_site(0x0004, 0x10006, 16, four);
+}
+
+fn at_the_end_of_places(four: &[u8]) {
+    try_site(0xFF0000, 0x1000000, 8, four);
+    try_site(0xFEFFFE, 0x1000000, 8, four);
+    try_site(0xFFFFFE, 0x1000002, 8, four);
+    try_site(0x1000000, 0x1000000, 8, four);
+    try_site(0x1000002, 0x1000002, 8, four);
+}
+
+fn wrong_sites(four: &[u8]) {
+    try_site(0x1001, 0x1004, 8, four);
+    try_site(0x1004, 0x1007, 8, four);
+    try_site(0x1008, 0x1006, 8, four);
+    try_site(0xFFFFFFFE, 0x1006, 8, four);
+    try_site(0x1004, 0x1006, 0, four);
+    try_site(0x1004, 0x1006, 24, four);
+}
+
+fn sites_with_long_code() {
+    let code = [0u8; 524288];
+    let long_code = [0u8; 524290];
+    try_site(0x80000, 0x80000, 8, &code);
+    try_site(0x80000, 0x90000, 8, &code);
+    try_site(0x7FFFE, 0x80000, 8, &code);
+    try_site(0x100000, 0x100000, 8, &code);
+    try_site(0x100000, 0x100000, 8, &long_code);
+}
+
 fn main() {
     ordinary();
     at_the_top();
@@ -200,4 +348,8 @@ fn main() {
     with_empty_memories();
     small_boards();
     large_boards();
+    areas();
+    areas_at_the_limits();
+    sites_with_short_code();
+    sites_with_long_code();
 }

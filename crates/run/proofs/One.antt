@@ -13,7 +13,7 @@ use Rattle.refusal.specs.declared.Outcome.the-variants.{Done, Refused}
 use Rattle.registers.specs.declared.Registers.{Registers}
 use Rattle.memory.specs.Board.{goodBoard}
 use Rattle.memory.specs.declared.Board.{Board}
-use Rattle.step.specs.Step.{After, after, answered, goodPc, stepOf}
+use Rattle.step.specs.Step.{After, after, answered, goodPc, goodStart, stepOf}
 use Rattle.step.proofs.Laws.{step-refused, step-states}
 use Rattle.run.specs.Run.{Ran, ran, told, onward, runFrom, runOf}
 use Rattle.run.proofs.Turns.{both, pc-fits}
@@ -49,7 +49,7 @@ module _ (b : Board) (rom ram : List ℕ) (r : Registers) where
       let k : stepOf b rom ram r .mem ≡ ram = ap (λ (x : After). x .mem) e in
       ap (λ (m : List ℕ). after (answered r 0 (Refused f)) m) k ∙ sym e
 
-  started : goodBoard b (length rom) (length ram) && goodPc (r .pc) ≡ true → runOf b rom ram r 1 1 ≡ runFrom b rom 1 1 ram r 0 0
+  started : goodStart b rom ram r ≡ true → runOf b rom ram r 1 1 ≡ runFrom b rom 1 1 ram r 0 0
   unfolding runOf
   started e = rw e
 
@@ -57,11 +57,11 @@ module _ (b : Board) (rom ram : List ℕ) (r : Registers) where
   unfolding runFrom
   goes e = rw e (turned _ refl)
 
-  bad : goodBoard b (length rom) (length ram) && goodPc (r .pc) ≡ false → one (runOf b rom ram r 1 1) ≡ stepOf b rom ram r
+  bad : goodStart b rom ram r ≡ false → one (runOf b rom ram r 1 1) ≡ stepOf b rom ram r
   unfolding runOf stepOf
   bad e = rw e
 
-  by-board : (t : Bool) → goodBoard b (length rom) (length ram) && goodPc (r .pc) ≡ t → one (runOf b rom ram r 1 1) ≡ stepOf b rom ram r
+  by-board : (t : Bool) → goodStart b rom ram r ≡ t → one (runOf b rom ram r 1 1) ≡ stepOf b rom ram r
   by-board true e = ap (λ (x : Ran). one x) (started e) ∙ goes (off (both (goodBoard b (length rom) (length ram)) (goodPc (r .pc)) e .1))
   by-board false e = bad e
 

@@ -11,10 +11,9 @@ use Rattle.refusal.specs.declared.Refusal.{Refusal}
 use Rattle.refusal.specs.declared.Outcome.{Outcome}
 use Rattle.refusal.specs.declared.Outcome.the-variants.{Done, Refused}
 use Rattle.registers.specs.declared.Registers.{Registers}
-use Rattle.memory.specs.Board.{goodBoard}
 use Rattle.memory.specs.declared.Board.{Board}
 use Rattle.machine.specs.Machine.{Steps, none, more}
-use Rattle.step.specs.Step.{After, after, answered, goodPc, stepOf}
+use Rattle.step.specs.Step.{After, after, answered, goodStart, stepOf}
 use Rattle.step.specs.Processor.{State, processor}
 use Rattle.step.proofs.Laws.{step-refused}
 use Rattle.run.specs.Run.{Ran, ran, told, onward, runFrom, runOf}
@@ -81,7 +80,7 @@ module _ (b : Board) (rom : List ℕ) (stop budget : ℕ) where
       refl
 
   -- on a right board, from a PC that can be, within the allowed budget
-  pub repeated : (ram : List ℕ) (r : Registers) → goodBoard b (length rom) (length ram) && goodPc (r .pc) ≡ true → budget ≤ 1000000
+  pub repeated : (ram : List ℕ) (r : Registers) → goodStart b rom ram r ≡ true → budget ≤ 1000000
       → Repeated b rom ram r stop budget (runOf b rom ram r stop budget)
   unfolding runOf
   repeated ram r good small = rw (le-ltb 1000000 budget small, good) (whole (from budget ram r 0 0 (omega arith)))

@@ -18,7 +18,7 @@ use Rattle.registers.specs.Parts.{pcOf}
 use Rattle.memory.specs.Board.{goodBoard}
 use Rattle.memory.specs.declared.Board.{Board}
 use Rattle.entry.specs.Entry.{byKind, meaningOf}
-use Rattle.step.specs.Step.{After, after, answered, stays, actOf, goodPc, fetchOf, stepOf}
+use Rattle.step.specs.Step.{After, after, answered, stays, actOf, goodPc, goodStart, fetchOf, stepOf}
 use Rattle.step.specs.declared.StepAnswer.{StepAnswer}
 use Rattle.step.proofs.Laws.{Kept, fetch-keeps, fetch-refused}
 use Rattle.turns.specs.declared.Turn.{Turn}
@@ -128,7 +128,7 @@ module _ (b : Board) (rom : List ℕ) (stop : ℕ) (ram : List ℕ) (r : Registe
   unfolding runFrom
   spent budget h e = let z : budget - steps ≡ zero = omega arith in rw (z, ne-eqb _ _ h)
 
-  module _ (good : goodBoard b (length rom) (length ram) && goodPc (r .pc) ≡ true) (a : StepAnswer) (m : List ℕ) (e : after a m ≡ fetchOf r b rom ram) where
+  module _ (good : goodStart b rom ram r ≡ true) (a : StepAnswer) (m : List ℕ) (e : after a m ≡ fetchOf r b rom ram) where
     step-is : stepOf b rom ram r ≡ after a m
     unfolding stepOf
     step-is = rw good (sym e)
@@ -142,7 +142,7 @@ module _ (b : Board) (rom : List ℕ) (stop : ℕ) (ram : List ℕ) (r : Registe
       pub length-kept : length m ≡ length ram
       length-kept = kept .length-stays
 
-      pub still-good : goodBoard b (length rom) (length m) && goodPc (a .regs .pc) ≡ true
+      pub still-good : goodStart b rom m (a .regs) ≡ true
       still-good = rw (kept .length-stays, both (goodBoard b (length rom) (length ram)) (goodPc (r .pc)) good .0) (kept .pc-good)
 
     module _ (budget : ℕ) (off : r .pc ≡ stop → ⊥) (le : steps ≤ budget) (ne : steps ≡ budget → ⊥) where

@@ -1,17 +1,15 @@
 -- A run: the step repeated (document 01, "The board and a run").
 use Prim.Native.Nat.{ℕ, zero, suc, _+_}
-use mathlib.Core.Bool.{Bool, true, false, cond, _&&_}
+use mathlib.Core.Bool.{Bool, true, false, cond}
 use mathlib.Core.List.{List}
 use lib.Dec.{ltb, eqb}
-use lib.ListN.{length}
 use Rattle.refusal.specs.declared.Refusal.{Refusal}
 use Rattle.refusal.specs.declared.Refusal.the-variants.{BadBoard, BudgetTooLarge}
 use Rattle.refusal.specs.declared.Outcome.{Outcome}
 use Rattle.refusal.specs.declared.Outcome.the-variants.{Done, Refused}
 use Rattle.registers.specs.declared.Registers.{Registers}
-use Rattle.memory.specs.Board.{goodBoard}
 use Rattle.memory.specs.declared.Board.{Board}
-use Rattle.step.specs.Step.{stepOf, goodPc}
+use Rattle.step.specs.Step.{stepOf, goodStart}
 use Rattle.run.specs.declared.Ending.{Ending}
 use Rattle.run.specs.declared.Ending.the-variants.{AtStop, Spent, Halted}
 use Rattle.run.specs.declared.RunAnswer.{RunAnswer}
@@ -48,5 +46,5 @@ module _ (b : Board) (rom : List ℕ) (stop : ℕ) where
 unfoldable pub runOf : Board → List ℕ → List ℕ → Registers → ℕ → ℕ → Ran
 runOf b rom ram r stop budget =
     cond (ltb 1000000 budget) (ran (told r 0 0 (Halted BudgetTooLarge)) ram)
-    (cond (goodBoard b (length rom) (length ram) && goodPc (r .pc)) (runFrom b rom stop budget ram r 0 0)
+    (cond (goodStart b rom ram r) (runFrom b rom stop budget ram r 0 0)
     (ran (told r 0 0 (Halted BadBoard)) ram))

@@ -7,9 +7,7 @@ use step::StepAnswer;
 ghost use mathlib.Core.Path.{_≡_};
 ghost use mathlib.Core.Bool.{true, _&&_};
 ghost use Prim.Native.Nat.{_%_, _≤_};
-ghost use lib.ListN.{length};
-ghost use Rattle.memory.specs.Board.{goodBoard};
-ghost use Rattle.step.specs.Step.{after, answered, goodPc, stepOf};
+ghost use Rattle.step.specs.Step.{after, answered, goodStart, stepOf};
 ghost use Rattle.run.specs.MirrorKept.{Keeps};
 ghost use Rattle.run.specs.MirrorSingle.{outcomeOf};
 ghost use Rattle.run.specs.Run.{ran, told, runFrom, runOf};
@@ -52,7 +50,7 @@ fn repeat(
     stop: u32,
     budget: u32,
 ) -> RunAnswer
-    requires { ⌜ (budget ≤ 1000000) × (goodBoard b (length (now rom)) (length (now ram)) && goodPc (r .pc) ≡ true) × Keeps (now rom) (now lines) ⌝ }
+    requires { ⌜ (budget ≤ 1000000) × (goodStart b (now rom) (now ram) r ≡ true) × Keeps (now rom) (now lines) ⌝ }
     ensures { λ q. ⌜ ran q (now (ram .exit)) ≡ runFrom b (now (rom .entry)) stop budget (now (ram .entry)) r 0 0 ⌝ }
 {
     let mut er = r.er;

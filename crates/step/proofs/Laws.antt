@@ -36,13 +36,15 @@ use Rattle.products.specs.declared.Half.{Half}
 use Rattle.products.specs.declared.Division.{Division}
 use Rattle.products.specs.declared.Division.the-variants.{Divided, Fails}
 use Rattle.bitwork.specs.Bitwork.{tookFrom, takesAt, gaveTo, givesAt, takesOf, givesOf}
+use Rattle.timing.proofs.Few.{most-few}
+use Rattle.moves.specs.Made.{statesAt}
+use Rattle.moves.proofs.States.{never-more}
 use Rattle.moves.specs.Moves.{Stepped, stepped, stepOver, loadedOf, loadOf, storedOf, storeOf, pushOf, poppedOf}
 use Rattle.flow.specs.Targets.{nextOf}
 use Rattle.decoder.specs.MirrorDecode.{decodeOf}
-use Rattle.codes.specs.States.{statesOf, goesOf}
-use Rattle.codes.proofs.Laws.{states-range}
+use Rattle.codes.specs.States.{goesOf}
 use Rattle.step.specs.Follow.{aimOf, followOf}
-use Rattle.step.specs.Step.{transferOf, effectOf, After, after, answered, stays, finishOf, carryOf, obeyOf, actOf, fetchOf, goodPc, stepOf}
+use Rattle.step.specs.Step.{transferOf, effectOf, After, after, answered, stays, finishOf, carryOf, obeyOf, actOf, fetchOf, goodPc, goodStart, stepOf}
 use Rattle.step.proofs.Range.{whole-stc, whole-ldc, whole-ccr, whole-alu, whole-inc-dec, whole-carried, whole-adds-subs, whole-added, whole-shift, whole-unary, whole-put, whole-multiply, whole-over, whole-took}
 use Rattle.arith.specs.declared.Width.{Width}
 use Rattle.arith.specs.declared.Width.the-variants.{Byte, Word, Long}
@@ -171,11 +173,11 @@ module _ (r : Registers) (b : Board) (rom ram : List ℕ) where
         → Comes (after (stays r f) ram)
     completes : (i : Instruction) (n p : ℕ) (q : Registers) (m : List ℕ) → ltb (r .pc) (length rom) ≡ true → decodeOf (r .pc) (drop (r .pc) rom) ≡ Code i n
         → followOf r b rom ram (goesOf i) (nextOf (r .pc) n) ≡ Value p → effectOf (nextOf (r .pc) n) r b rom ram i ≡ stepped (did q) m
-        → length m ≡ length ram → (Whole r → Whole q) → Comes (after (answered (withPc q p) (statesOf i) Done) m)
+        → length m ≡ length ram → (Whole r → Whole q) → Comes (after (answered (withPc q p) (statesAt (b .site) r i) Done) m)
 
   module _ (i : Instruction) (n : ℕ) (l : ltb (r .pc) (length rom) ≡ true) (d : decodeOf (r .pc) (drop (r .pc) rom) ≡ Code i n) where
     finished : (p : ℕ) → followOf r b rom ram (goesOf i) (nextOf (r .pc) n) ≡ Value p → (s : Stepped) → effectOf (nextOf (r .pc) n) r b rom ram i ≡ s
-        → Done-or-not r ram s → Comes (after (finishOf (s .effect .outcome) r (s .effect .regs) p (statesOf i)) (s .mem))
+        → Done-or-not r ram s → Comes (after (finishOf (s .effect .outcome) r (s .effect .regs) p (statesAt (b .site) r i)) (s .mem))
     unfolding finishOf
     finished p g s e (done q m k h) = completes i n p q m l d g e k h
     finished p g s e (not-done f h) = by-data i n f l d h
@@ -228,7 +230,7 @@ module _ (r : Registers) (b : Board) (rom ram : List ℕ) where
         length-stays = k;
       }
 
-  stepped-by : (t : Bool) → goodBoard b (length rom) (length ram) && goodPc (r .pc) ≡ t → (f : Refusal) → stepOf b rom ram r .answer .outcome ≡ Refused f
+  stepped-by : (t : Bool) → goodStart b rom ram r ≡ t → (f : Refusal) → stepOf b rom ram r .answer .outcome ≡ Refused f
       → stepOf b rom ram r ≡ after (stays r f) ram
   unfolding stepOf
   stepped-by true t f e = rw t (refused-stays _ (comes r b rom ram) f (rw t at e))
@@ -249,17 +251,17 @@ module _ (r : Registers) (b : Board) (rom ram : List ℕ) where
   pub fetch-refused : (f : Refusal) → fetchOf r b rom ram .answer .outcome ≡ Refused f → fetchOf r b rom ram ≡ after (stays r f) ram
   fetch-refused f e = refused-stays _ (comes r b rom ram) f e
 
-  few : (a : After) → Comes r b rom ram a → a .answer .states ≤ 24
+  few : (a : After) → Comes r b rom ram a → a .answer .states ≤ 32
   few a (outside l) = omega arith
   few a (no-code f l d) = omega arith
   few a (by-data i n f l d k) = omega arith
-  few a (completes i n p q m l d g e k h) = states-range i .1
+  few a (completes i n p q m l d g e k h) = omega (arith, never-more (b .site) r i, most-few (b .site) i)
 
-  few-on : (t : Bool) → goodBoard b (length rom) (length ram) && goodPc (r .pc) ≡ t → stepOf b rom ram r .answer .states ≤ 24
+  few-on : (t : Bool) → goodStart b rom ram r ≡ t → stepOf b rom ram r .answer .states ≤ 32
   unfolding stepOf
   few-on true e = rw e (few _ (comes r b rom ram))
   few-on false e = rw e (omega arith)
 
-  -- a step takes at most 24 states
-  pub step-states : stepOf b rom ram r .answer .states ≤ 24
+  -- a step takes at most 32 states
+  pub step-states : stepOf b rom ram r .answer .states ≤ 32
   step-states = few-on _ refl

@@ -19,10 +19,11 @@ use Rattle.operate.specs.Operate.{stcOf, ldcOf, ccrOf, aluOf, incDecOf, addsSub
 use Rattle.operate.specs.Results.{did}
 use Rattle.multiply.specs.Multiply.{multiplyOf, divideOf}
 use Rattle.bitwork.specs.Bitwork.{takesOf, givesOf}
+use Rattle.moves.specs.Made.{statesAt}
 use Rattle.moves.specs.Moves.{Stepped, stepped, loadOf, storeOf, pushOf, poppedOf}
 use Rattle.flow.specs.Targets.{nextOf}
 use Rattle.decoder.specs.MirrorDecode.{decodeOf}
-use Rattle.codes.specs.States.{statesOf, goesOf}
+use Rattle.codes.specs.States.{goesOf}
 use Rattle.step.specs.Follow.{followOf}
 use Rattle.step.specs.declared.StepAnswer.{StepAnswer}
 use Rattle.codes.specs.declared.Dir.{Dir}
@@ -86,7 +87,7 @@ finishOf (Refused f) r q p n = stays r f
 unfoldable pub carryOf : Got → Instruction → ℕ → Registers → Board → List ℕ → List ℕ → After
 carryOf (Value p) i next r b rom ram =
     let s = effectOf next r b rom ram i in
-    after (finishOf (s .effect .outcome) r (s .effect .regs) p (statesOf i)) (s .mem)
+    after (finishOf (s .effect .outcome) r (s .effect .regs) p (statesAt (b .site) r i)) (s .mem)
 carryOf (NotRead f) i next r b rom ram = after (stays r f) ram
 
 unfoldable pub obeyOf : Instruction → ℕ → Registers → Board → List ℕ → List ℕ → After
@@ -108,6 +109,10 @@ fetchOf r b rom ram =
 abbrev pub goodPc : ℕ → Bool
 goodPc pc = eqb (pc % 2) 0 && ltb pc (2 ^ 24)
 
+-- a right board, and a PC that can be: else refusal 1
+abbrev pub goodStart : Board → List ℕ → List ℕ → Registers → Bool
+goodStart b rom ram r = goodBoard b (length rom) (length ram) && goodPc (r .pc)
+
 unfoldable pub stepOf : Board → List ℕ → List ℕ → Registers → After
 stepOf b rom ram r =
-    cond (goodBoard b (length rom) (length ram) && goodPc (r .pc)) (fetchOf r b rom ram) (after (stays r BadBoard) ram)
+    cond (goodStart b rom ram r) (fetchOf r b rom ram) (after (stays r BadBoard) ram)

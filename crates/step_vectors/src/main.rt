@@ -1,7 +1,6 @@
 // A step of every form from three states, every condition, marked examples 1 to 9, refusals 1 to 7 and 14 and what is easily missed.
 // A line has the state before, how the step went, which of ER0 to ER7 changed, and the rest of the state after. `stdout` is what
 // bench/step_vectors.c prints, by a model that shares no text with this product.
-use memory::Board;
 use refusal::Outcome;
 use refusal::Refusal;
 use registers::Condition;
@@ -356,7 +355,7 @@ fn line(base: u32, rom: &[u8], ram: &mut [u8], r: Registers) -> Registers {
     show_general(before);
     show_control(r);
     show_ram(&ram[..]);
-    let a = run::single(Board { base }, rom, ram, r);
+    let a = run::single(memory::plain(base), rom, ram, r);
     let o = a.outcome;
     let q = a.regs;
     let after = q.er;
@@ -497,7 +496,7 @@ fn branch(digit: u8, flags: u8) {
     let rom = [0x40 + digit % 16, 0x10];
     let mut ram = [0u8; 0];
     let a = run::single(
-        Board { base: BASE },
+        memory::plain(BASE),
         &rom,
         &mut ram,
         start(0, 0, 0, 0, flags),

@@ -26,7 +26,10 @@ fn returned(er: &mut [u32; 8], f: Condition, b: Board, rom: &[u8], ram: &[u8]) -
 {
     let at = registers::get(Width::Long, er, 7);
     match memory::read(Width::Long, b, rom, ram, at) {
-        Got::Value(p) => turns::done(moves::popped(er, f), p, 10),
+        Got::Value(p) => {
+            let n = 6 + timing::access(b.site, Width::Long, at);
+            turns::done(moves::popped(er, f), p, n)
+        }
         Got::NotRead(x) => turns::refuse(f, x),
     }
 }
@@ -71,17 +74,19 @@ pub fn single(
 fn jump_vector(a: u8, er: &[u32; 8], f: Condition, b: Board, rom: &[u8], ram: &[u8]) -> Turn
     ensures { λ t. ⌜ Anywhere (Jmp (Vector a)) (now (er .entry)) (now (er .entry)) f b (now (rom .entry)) (now (ram .entry)) t ⌝ }
 {
-    match memory::read(Width::Long, b, rom, ram, a as u32) {
-        Got::Value(p) => turns::done(f, p, 10),
+    let at = a as u32;
+    match memory::read(Width::Long, b, rom, ram, at) {
+        Got::Value(p) => turns::done(f, p, 6 + timing::access(b.site, Width::Long, at)),
         Got::NotRead(x) => turns::refuse(f, x),
     }
 }
 
-// A call of the address `to`, which was found before anything is pushed: so 5 is looked for before 6.
+// A call of the address `to`, which was found before anything is pushed: so 5 is looked for before 6. n is the states without the push, which
+// was made where ER7 then points.
 fn called(
     next: u32,
     to: u32,
-    n: u32,
+    n: u16,
     er: &mut [u32; 8],
     f: Condition,
     b: Board,
@@ -89,7 +94,9 @@ fn called(
 ) -> Turn
     ensures { λ t. ⌜ Called next to n (now (er .entry)) (now (er .exit)) f b (now (ram .entry)) (now (ram .exit)) t ⌝ }
 {
-    turns::ended(moves::call(next, er, f, b, ram), to, n)
+    let e = moves::call(next, er, f, b, ram);
+    let at = registers::get(Width::Long, er, 7);
+    turns::ended(e, to, n as u32 + timing::access(b.site, Width::Long, at))
 }
 
 // BSR.
@@ -98,7 +105,7 @@ fn call_near(d: u8, pc: u32, er: &mut [u32; 8], f: Condition, b: Board, ram: &mu
 {
     let next = flow::next(pc, 2);
     let to = flow::target(next, Reach::Near(d));
-    called(next, to, 8, er, f, b, ram)
+    called(next, to, 4, er, f, b, ram)
 }
 
 fn call_far(d: u16, pc: u32, er: &mut [u32; 8], f: Condition, b: Board, ram: &mut [u8]) -> Turn
@@ -106,7 +113,7 @@ fn call_far(d: u16, pc: u32, er: &mut [u32; 8], f: Condition, b: Board, ram: &mu
 {
     let next = flow::next(pc, 4);
     let to = flow::target(next, Reach::Far(d));
-    called(next, to, 10, er, f, b, ram)
+    called(next, to, 6, er, f, b, ram)
 }
 
 // JSR @@aa:8.
@@ -121,8 +128,12 @@ fn call_vector(
 ) -> Turn
     ensures { λ t. ⌜ TurnsOn (Code (Jsr (Vector a)) 2) (now (er .entry)) (now (er .exit)) pc f b (now (rom .entry)) (now (ram .entry)) (now (ram .exit)) t ⌝ }
 {
-    match memory::read(Width::Long, b, rom, &ram[..], a as u32) {
-        Got::Value(p) => called(flow::next(pc, 2), p, 12, er, f, b, ram),
+    let at = a as u32;
+    match memory::read(Width::Long, b, rom, &ram[..], at) {
+        Got::Value(p) => {
+            let n = 4 + timing::access(b.site, Width::Long, at);
+            called(flow::next(pc, 2), p, n as u16, er, f, b, ram)
+        }
         Got::NotRead(x) => turns::refuse(f, x),
     }
 }
@@ -149,13 +160,13 @@ pub fn jump(
         5 => called(
             flow::next(pc, 2),
             registers::get(Width::Long, er, (x % 8) as u8),
-            8,
+            4,
             er,
             f,
             b,
             ram,
         ),
-        6 => called(flow::next(pc, 4), (x % 16777216) as u32, 10, er, f, b, ram),
+        6 => called(flow::next(pc, 4), (x % 16777216) as u32, 6, er, f, b, ram),
         7 => call_vector((x % 256) as u8, pc, er, f, b, rom, ram),
         8 => turns::done(
             multiply::mulxu(Half::Eight, er, (x / 16 % 16) as u8, (x % 16) as u8, f),

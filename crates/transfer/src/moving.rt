@@ -15,15 +15,15 @@ ghost use Rattle.turns.specs.MirrorTurn.{TurnsOn};
 ghost use Rattle.entry.specs.Entry.{dirOf, moved};
 ghost use Rattle.transfer.specs.MirrorTransfer.{lowOf, highOf, displacedOf, aim, aimIn, Transfers};
 
-// The operand's address and the digit of the register, where PC goes, and the states.
+// The operand's address and the digit of the register, where PC goes, and the states without the access.
 pub struct Aim {
     pub address: u32,
     pub register: u8,
     pub next: u32,
-    pub states: u32,
+    pub states: u16,
 }
 
-fn at(address: u32, register: u8, next: u32, states: u32) -> Aim
+fn at(address: u32, register: u8, next: u32, states: u16) -> Aim
     ensures { λ a. ⌜ a ≡ aim address register next states ⌝ }
 {
     Aim {
@@ -69,12 +69,12 @@ fn displaced(e: u32, x: u64) -> u32
     arith::sums::add(Width::Long, e, extended(x), false).value
 }
 
-// All but @ER+ and @-ER, by the variant. n is the bytes of the shortest code, s its states.
+// All but @ER+ and @-ER, by the variant. n is the bytes of the shortest code, s its states without the access.
 fn aimed(k: u8, m: u8, x: u64, pc: u32, n: u8, s: u8, er: &[u32; 8]) -> Aim
     ensures { λ a. ⌜ a ≡ aimIn k m x pc n s (now (er .entry)) ⌝ }
 {
     let bytes = n as usize;
-    let states = s as u32;
+    let states = s as u16;
     match k {
         0 => at(
             registers::get(Width::Long, er, high(m, x)),
@@ -125,13 +125,13 @@ fn step_byte(
     let r = (x % 16) as u8;
     let next = flow::next(pc, 2);
     if k < 8 {
-        turns::ended(
-            moves::pop(Width::Byte, e, r, er, f, b, rom, &ram[..]),
-            next,
-            6,
-        )
+        let at = registers::get(Width::Long, er, e);
+        let d = moves::pop(Width::Byte, e, r, er, f, b, rom, &ram[..]);
+        turns::ended(d, next, 4 + timing::access(b.site, Width::Byte, at))
     } else {
-        turns::ended(moves::push(Width::Byte, e, r, er, f, b, ram), next, 6)
+        let d = moves::push(Width::Byte, e, r, er, f, b, ram);
+        let at = registers::get(Width::Long, er, e);
+        turns::ended(d, next, 4 + timing::access(b.site, Width::Byte, at))
     }
 }
 
@@ -146,17 +146,18 @@ fn transfer_byte(
 ) -> Turn
     ensures { λ t. ⌜ Transfers (dirOf k) Byte a (now (er .entry)) (now (er .exit)) f b (now (rom .entry)) (now (ram .entry)) (now (ram .exit)) t ⌝ }
 {
+    let n = a.states as u32 + timing::access(b.site, Width::Byte, a.address);
     if k < 8 {
         turns::ended(
             moves::load(Width::Byte, a.address, a.register, er, f, b, rom, &ram[..]),
             a.next,
-            a.states,
+            n,
         )
     } else {
         turns::ended(
             moves::store(Width::Byte, a.address, a.register, er, f, b, ram),
             a.next,
-            a.states,
+            n,
         )
     }
 }
@@ -177,7 +178,7 @@ pub fn byte(
     if k % 8 == 1 {
         step_byte(k, x, pc, er, f, b, rom, ram)
     } else {
-        transfer_byte(k, aimed(k % 8, 16, x, pc, 2, 4, er), er, f, b, rom, ram)
+        transfer_byte(k, aimed(k % 8, 16, x, pc, 2, 2, er), er, f, b, rom, ram)
     }
 }
 
@@ -197,13 +198,13 @@ fn step_word(
     let r = (x % 16) as u8;
     let next = flow::next(pc, 2);
     if k < 8 {
-        turns::ended(
-            moves::pop(Width::Word, e, r, er, f, b, rom, &ram[..]),
-            next,
-            6,
-        )
+        let at = registers::get(Width::Long, er, e);
+        let d = moves::pop(Width::Word, e, r, er, f, b, rom, &ram[..]);
+        turns::ended(d, next, 4 + timing::access(b.site, Width::Word, at))
     } else {
-        turns::ended(moves::push(Width::Word, e, r, er, f, b, ram), next, 6)
+        let d = moves::push(Width::Word, e, r, er, f, b, ram);
+        let at = registers::get(Width::Long, er, e);
+        turns::ended(d, next, 4 + timing::access(b.site, Width::Word, at))
     }
 }
 
@@ -218,17 +219,18 @@ fn transfer_word(
 ) -> Turn
     ensures { λ t. ⌜ Transfers (dirOf k) Word a (now (er .entry)) (now (er .exit)) f b (now (rom .entry)) (now (ram .entry)) (now (ram .exit)) t ⌝ }
 {
+    let n = a.states as u32 + timing::access(b.site, Width::Word, a.address);
     if k < 8 {
         turns::ended(
             moves::load(Width::Word, a.address, a.register, er, f, b, rom, &ram[..]),
             a.next,
-            a.states,
+            n,
         )
     } else {
         turns::ended(
             moves::store(Width::Word, a.address, a.register, er, f, b, ram),
             a.next,
-            a.states,
+            n,
         )
     }
 }
@@ -249,7 +251,7 @@ pub fn word(
     if k % 8 == 1 {
         step_word(k, x, pc, er, f, b, rom, ram)
     } else {
-        transfer_word(k, aimed(k % 8, 16, x, pc, 2, 4, er), er, f, b, rom, ram)
+        transfer_word(k, aimed(k % 8, 16, x, pc, 2, 2, er), er, f, b, rom, ram)
     }
 }
 
@@ -269,13 +271,13 @@ fn step_long(
     let r = (x % 8) as u8;
     let next = flow::next(pc, 4);
     if k < 8 {
-        turns::ended(
-            moves::pop(Width::Long, e, r, er, f, b, rom, &ram[..]),
-            next,
-            10,
-        )
+        let at = registers::get(Width::Long, er, e);
+        let d = moves::pop(Width::Long, e, r, er, f, b, rom, &ram[..]);
+        turns::ended(d, next, 6 + timing::access(b.site, Width::Long, at))
     } else {
-        turns::ended(moves::push(Width::Long, e, r, er, f, b, ram), next, 10)
+        let d = moves::push(Width::Long, e, r, er, f, b, ram);
+        let at = registers::get(Width::Long, er, e);
+        turns::ended(d, next, 6 + timing::access(b.site, Width::Long, at))
     }
 }
 
@@ -290,17 +292,18 @@ fn transfer_long(
 ) -> Turn
     ensures { λ t. ⌜ Transfers (dirOf k) Long a (now (er .entry)) (now (er .exit)) f b (now (rom .entry)) (now (ram .entry)) (now (ram .exit)) t ⌝ }
 {
+    let n = a.states as u32 + timing::access(b.site, Width::Long, a.address);
     if k < 8 {
         turns::ended(
             moves::load(Width::Long, a.address, a.register, er, f, b, rom, &ram[..]),
             a.next,
-            a.states,
+            n,
         )
     } else {
         turns::ended(
             moves::store(Width::Long, a.address, a.register, er, f, b, ram),
             a.next,
-            a.states,
+            n,
         )
     }
 }
@@ -321,6 +324,6 @@ pub fn long(
     if k % 8 == 1 {
         step_long(k, x, pc, er, f, b, rom, ram)
     } else {
-        transfer_long(k, aimed(k % 8, 8, x, pc, 4, 8, er), er, f, b, rom, ram)
+        transfer_long(k, aimed(k % 8, 8, x, pc, 4, 4, er), er, f, b, rom, ram)
     }
 }

@@ -1,7 +1,7 @@
 -- What a turn says of the step: the laws that an arm of the executor is proved by. Assumes nothing.
 use Prim.Native.Nat.{ℕ}
-use mathlib.Core.Path.{_≡_, refl, sym, _∙_, ap}
-use mathlib.Core.List.{List}
+use mathlib.Core.Path.{_≡_, sym, _∙_, ap}
+use mathlib.Core.List.{List, []}
 use native.Mathlib.Nat.{zero-add}
 use Rattle.refusal.specs.declared.Refusal.{Refusal}
 use Rattle.refusal.specs.declared.Outcome.{Outcome}
@@ -16,8 +16,11 @@ use Rattle.memory.specs.declared.Got.the-variants.{Value, NotRead}
 use Rattle.operate.specs.declared.Deed.{Deed}
 use Rattle.operate.specs.MirrorLent.{Does, effectIn}
 use Rattle.operate.specs.Results.{did}
+use Rattle.moves.specs.Made.{statesAt}
 use Rattle.moves.specs.Moves.{Stepped, stepped}
+use Rattle.moves.proofs.States.{states-none}
 use Rattle.flow.specs.Targets.{nextOf}
+use Rattle.codes.specs.Cycles.{touchesOf}
 use Rattle.codes.specs.States.{statesOf, goesOf}
 use Rattle.step.specs.Follow.{followOf}
 use Rattle.step.specs.Step.{After, after, answered, stays, finishOf, effectOf, carryOf, obeyOf, actOf}
@@ -38,26 +41,26 @@ pub refused-stays : (er : List ℕ) (pc : ℕ) (f : Condition) (x : Refusal) →
 unfolding toldIn toldAs
 refused-stays er pc f x = rw (zero-add pc)
 
--- a deed that did what the instruction i does, with PC set to p: done, or refused with nothing written
-module _ (r : Registers) (ram er′ ram′ : List ℕ) (pc : ℕ) (e : Deed) (p n : ℕ) where
+-- a deed that did what the instruction i does, with PC set to p: done, with m its states, or refused with nothing written
+module _ (r : Registers) (ram er′ ram′ : List ℕ) (pc : ℕ) (e : Deed) (p n m : ℕ) (t : e .outcome ≡ Done → n ≡ m) where
   deed-told : (s : Stepped) → Done-or-not r ram s → stepped (effectIn er′ pc e) ram′ ≡ s
-      → after (toldIn er′ pc (endedOf (e .outcome) (e .condition) p n)) ram′ ≡ after (finishOf (s .effect .outcome) r (s .effect .regs) p n) (s .mem)
+      → after (toldIn er′ pc (endedOf (e .outcome) (e .condition) p n)) ram′ ≡ after (finishOf (s .effect .outcome) r (s .effect .regs) p m) (s .mem)
   unfolding endedOf finishOf
-  deed-told s (done q m k h) w =
+  deed-told s (done q l k h) w =
       let o : e .outcome ≡ Done = ap (λ (x : Stepped). x .effect .outcome) w in
-      let l : lent er′ pc (e .condition) ≡ q = ap (λ (x : Stepped). x .effect .regs) w in
-      rw (o, ap (λ (x : Stepped). x .mem) w) (ap (λ (a : StepAnswer). after a m) (done-told r q er′ pc (e .condition) p n l))
+      let g : lent er′ pc (e .condition) ≡ q = ap (λ (x : Stepped). x .effect .regs) w in
+      rw (o, ap (λ (x : Stepped). x .mem) w, sym (t o)) (ap (λ (a : StepAnswer). after a l) (done-told r q er′ pc (e .condition) p n g))
   deed-told s (not-done x h) w =
       let o : e .outcome ≡ Refused x = ap (λ (s : Stepped). s .effect .outcome) w in
-      let l : lent er′ pc (e .condition) ≡ r = ap (λ (s : Stepped). s .effect .regs) w in
-      rw (o, ap (λ (s : Stepped). s .mem) w) (ap (λ (a : StepAnswer). after a ram) (refused-stays er′ pc (e .condition) x ∙ ap (λ (q : Registers). stays q x) l))
+      let g : lent er′ pc (e .condition) ≡ r = ap (λ (s : Stepped). s .effect .regs) w in
+      rw (o, ap (λ (s : Stepped). s .mem) w) (ap (λ (a : StepAnswer). after a ram) (refused-stays er′ pc (e .condition) x ∙ ap (λ (q : Registers). stays q x) g))
 
   pub ended-told : (next : ℕ) (b : Board) (rom : List ℕ) (i : Instruction) → stepped (effectIn er′ pc e) ram′ ≡ effectOf next r b rom ram i
       → after (toldIn er′ pc (endedOf (e .outcome) (e .condition) p n)) ram′
-      ≡ (let s = effectOf next r b rom ram i in after (finishOf (s .effect .outcome) r (s .effect .regs) p n) (s .mem))
+      ≡ (let s = effectOf next r b rom ram i in after (finishOf (s .effect .outcome) r (s .effect .regs) p m) (s .mem))
   ended-told next b rom i w = deed-told _ (effect-view r b rom ram next i) w
 
--- The three ways in which an arm of the executor ends, for an instruction i of n bytes. p is where PC goes; where i goes onward, that is the next address.
+-- The ways in which an arm of the executor ends, for an instruction i of n bytes. p is where PC goes; where i goes onward, that is the next address.
 module _ (i : Instruction) (n p : ℕ) (er : List ℕ) (pc : ℕ) (f : Condition) (b : Board) (rom ram : List ℕ) where
   abbrev pub Goes-to : Got → Type 0
   Goes-to g = followOf (lent er pc f) b rom ram (goesOf i) (nextOf pc n) ≡ g
@@ -65,19 +68,33 @@ module _ (i : Instruction) (n p : ℕ) (er : List ℕ) (pc : ℕ) (f : Condition
   abbrev pub Acts : List ℕ → List ℕ → Turn → Type 0
   Acts er′ ram′ t = TurnsOn (Code i n) er er′ pc f b rom ram ram′ t
 
-  -- it did g, which has no memory and is not refused
-  pub done-acts : (g : Registers → Registers) (er′ : List ℕ) (f′ : Condition) → Goes-to (Value p)
+  -- its states, where it is completed
+  abbrev pub Takes : ℕ → Type 0
+  Takes s = s ≡ statesAt (b .site) (lent er pc f) i
+
+  -- it did g, which writes no memory and is not refused
+  pub done-taking : (s : ℕ) → Takes s → (g : Registers → Registers) (er′ : List ℕ) (f′ : Condition) → Goes-to (Value p)
       → effectOf (nextOf pc n) (lent er pc f) b rom ram i ≡ stepped (did (g (lent er pc f))) ram → Does g er er′ f f′
-      → Acts er′ ram (turn f′ p (statesOf i) Done)
+      → Acts er′ ram (turn f′ p s Done)
   unfolding actOf obeyOf carryOf
-  done-acts g er′ f′ w x d =
-      rw (w, x) (ap (λ (a : StepAnswer). after a ram) (done-told (lent er pc f) (g (lent er pc f)) er′ pc f′ p (statesOf i) (d pc)))
+  done-taking s t g er′ f′ w x d =
+      rw (w, x, sym t) (ap (λ (a : StepAnswer). after a ram) (done-told (lent er pc f) (g (lent er pc f)) er′ pc f′ p s (d pc)))
 
   -- a deed that did all that i does, or was refused
-  pub ended-acts : (er′ ram′ : List ℕ) (e : Deed) → Goes-to (Value p) → stepped (effectIn er′ pc e) ram′ ≡ effectOf (nextOf pc n) (lent er pc f) b rom ram i
-      → Acts er′ ram′ (endedOf (e .outcome) (e .condition) p (statesOf i))
+  pub ended-taking : (s : ℕ) (er′ ram′ : List ℕ) (e : Deed) → (e .outcome ≡ Done → Takes s) → Goes-to (Value p)
+      → stepped (effectIn er′ pc e) ram′ ≡ effectOf (nextOf pc n) (lent er pc f) b rom ram i → Acts er′ ram′ (endedOf (e .outcome) (e .condition) p s)
   unfolding actOf obeyOf carryOf
-  ended-acts er′ ram′ e w x = rw w (ended-told (lent er pc f) ram er′ ram′ pc e p (statesOf i) (nextOf pc n) b rom i x)
+  ended-taking s er′ ram′ e t w x = rw w (ended-told (lent er pc f) ram er′ ram′ pc e p s _ t (nextOf pc n) b rom i x)
+
+  -- the same where i touches no memory
+  pub done-acts : touchesOf i ≡ [] → (g : Registers → Registers) (er′ : List ℕ) (f′ : Condition) → Goes-to (Value p)
+      → effectOf (nextOf pc n) (lent er pc f) b rom ram i ≡ stepped (did (g (lent er pc f))) ram → Does g er er′ f f′
+      → Acts er′ ram (turn f′ p (statesOf i) Done)
+  done-acts h = done-taking (statesOf i) (sym (states-none (b .site) (lent er pc f) i h))
+
+  pub ended-acts : touchesOf i ≡ [] → (er′ ram′ : List ℕ) (e : Deed) → Goes-to (Value p)
+      → stepped (effectIn er′ pc e) ram′ ≡ effectOf (nextOf pc n) (lent er pc f) b rom ram i → Acts er′ ram′ (endedOf (e .outcome) (e .condition) p (statesOf i))
+  ended-acts h er′ ram′ e = ended-taking (statesOf i) er′ ram′ e (λ _. sym (states-none (b .site) (lent er pc f) i h))
 
   -- the address where it goes could not be read
   pub unread-acts : (x : Refusal) → Goes-to (NotRead x) → Acts er ram (turn f 0 0 (Refused x))

@@ -8,6 +8,7 @@ use Rattle.refusal.specs.declared.Refusal.{Refusal}
 use Rattle.refusal.specs.declared.Refusal.the-variants.{BadBoard, FetchOutside, UnknownCode, CutShort, ReadOutside, WriteOutside, NoAdjustRow, BadEntry, NotFollowed, NotUpward, NotInstruction, BudgetTooLarge, LentTooShort, DivideFails, LeftOut}
 use Rattle.paths.specs.declared.Flow.{Flow}
 use Rattle.paths.specs.declared.Flow.the-variants.{Next, Jump, Either, Ends, Stop}
+use Rattle.site.specs.Costs.{noPorts}
 use Rattle.listing.specs.Listing.{flowAt}
 use Rattle.text.specs.Lines.{ascii}
 use Rattle.text.specs.Numbers.{placeOf, decimalOf}
@@ -43,7 +44,7 @@ entryText n p = ascii "8" ++ (atPlace p ++ (ascii "the entry is odd or outside t
 abbrev pub followText : List ℕ → ℕ → List ℕ
 followText rom p = ascii "9" ++ (atPlace p ++ (standsAt rom p ++ ascii "; calls, and jumps by a register or a vector, are not followed"))
 
--- where a way that does not go up leads
+-- where a way that does not go up leads; ports change nothing there
 abbrev pub backOf : ℕ → Flow → ℕ
 backOf p (Next n s) = n
 backOf p (Jump t s) = t
@@ -78,7 +79,7 @@ refusalText rom (WriteOutside p) = writeText p
 refusalText rom (NoAdjustRow p) = adjustText rom p
 refusalText rom (BadEntry p) = entryText (length rom) p
 refusalText rom (NotFollowed p) = followText rom p
-refusalText rom (NotUpward p) = upwardText p (backOf p (flowAt rom p))
+refusalText rom (NotUpward p) = upwardText p (backOf p (flowAt noPorts rom p))
 refusalText rom NotInstruction = ascii "11: not an instruction: a field is out of range"
 refusalText rom BudgetTooLarge = ascii "12: the budget is over 1000000 steps"
 refusalText rom (LentTooShort n) = shortText n

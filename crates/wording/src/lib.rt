@@ -1,6 +1,7 @@
 // What stands at a place, and refusals, in words.
 ghost use mathlib.Core.Path.{_≡_};
 ghost use lib.ListN.{length};
+ghost use Rattle.site.specs.Costs.{noPorts};
 ghost use Rattle.listing.specs.Listing.{flowAt};
 ghost use Rattle.text.specs.Lines.{Adds};
 ghost use Rattle.wording.specs.Standing.{byteText, bytesAt, notHeldText, noCodeText, foundText, standsAt};
@@ -211,9 +212,9 @@ fn upward(l: Line, p: u32, to: u32) -> Line
 }
 
 fn upward_at(l: Line, rom: &[u8], p: u32) -> Line
-    ensures { λ r. ⌜ Adds l (upwardText p (backOf p (flowAt (now (rom .entry)) p))) r ⌝ }
+    ensures { λ r. ⌜ Adds l (upwardText p (backOf p (flowAt noPorts (now (rom .entry)) p))) r ⌝ }
 {
-    let f = listing::flow_at(rom, p);
+    let f = listing::flow_at(site::no_ports(), rom, p);
     let to = back(p, f);
     upward(l, p, to)
 }

@@ -9,5 +9,6 @@ pub give-at-spec : {M : Type 1} → statement M
 unfolding givenAt
 give-at-spec =
     tie.close
-    (tie.spec (λ c. search needs) (λ c κs. search needs) (λ c. search needs) (λ c κs. search needs) (λ c κs. search needs) (λ c κs. search needs) (λ c κs. search needs) (λ c κs. search needs) (λ c. search needs)
-    (λ c. rw (c .ended .ensures, c .before .next .ensures, sym (c .before .before .before .before .before .before .before .before .index-as .ensures), sym (c .before .before .before .before .before .before .give-as .ensures)) (give-ends _ _ 4 _ _ _ _ _ _ _ _ _ (rw (sym (c .before .before .before .before .before .before .before .address .ensures)) (c .before .before .before .before .give-at .ensures _)))))
+    (tie.spec (λ c. search needs) (λ c κs. search needs) (λ c. search needs) (λ c κs. search needs) (λ c κs. search needs) (λ c κs. search needs)
+    (λ c κs. search needs) (λ c κs. search needs) (λ c. search needs) (λ c. search needs) (λ c κs. search needs) (λ c. search needs)
+    (λ c. rw (c .ended .ensures, c .before .next .ensures, sym (c .before .before .before .before .before .before .before .before .before .index-as .ensures), sym (c .before .before .before .before .before .before .before .give-as .ensures)) (give-ends _ _ 4 _ _ _ _ _ _ _ _ (rw (sym (c .before .before .before .before .before .before .before .before .address .ensures)) (c .before .before .access .ensures .0)) _ _ (rw (sym (c .before .before .before .before .before .before .before .before .address .ensures)) (c .before .before .before .before .before .give-at .ensures _)))))

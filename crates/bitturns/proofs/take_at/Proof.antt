@@ -9,5 +9,6 @@ pub take-at-spec : {M : Type 1} → statement M
 unfolding takenAt
 take-at-spec =
     tie.close
-    (tie.spec (λ c. search needs) (λ c κs. search needs) (λ c. search needs) (λ c κs. search needs) (λ c κs. search needs) (λ c κs. search needs) (λ c κs. search needs) (λ c κs. search needs)
-    (λ c. rw (c .ended .ensures, c .before .next .ensures, sym (c .before .before .before .before .before .index-as .ensures), sym (c .before .before .before .take-as .ensures)) (take-ends _ _ 4 _ _ _ _ _ _ _ _ (rw (sym (c .before .before .before .before .address .ensures)) (c .before .before .take-at .ensures _)))))
+    (tie.spec (λ c. search needs) (λ c κs. search needs) (λ c. search needs) (λ c κs. search needs) (λ c κs. search needs) (λ c κs. search needs)
+    (λ c κs. search needs) (λ c κs. search needs) (λ c. search needs) (λ c κs. search needs)
+    (λ c. rw (c .ended .ensures, c .before .next .ensures, sym (c .before .before .before .before .before .before .index-as .ensures), sym (c .before .before .before .before .take-as .ensures)) (take-ends _ _ 4 _ _ _ _ _ _ _ _ (rw (sym (c .before .before .before .before .before .address .ensures)) (c .before .before .access .ensures .0)) _ (rw (sym (c .before .before .before .before .before .address .ensures)) (c .before .before .before .take-at .ensures _)))))

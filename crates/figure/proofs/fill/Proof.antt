@@ -15,10 +15,10 @@ use Rattle.figure.proofs.fill.Statement.{statement}
 use Rattle.figure.proofs.fill.Tie as tie
 
 abbrev Inv-loop : tie.InvT-loop
-Inv-loop rom table₀ p₀ table p = (p ≤ length rom) × (p % 2 ≡ 0) × (length table ≡ length table₀) × RowsFrom (flowAt rom) (length rom) table p × ((i : ℕ) → length rom ≤ i → getD table i 0 ≡ getD table₀ i 0)
+Inv-loop k rom table₀ p₀ table p = (p ≤ length rom) × (p % 2 ≡ 0) × (length table ≡ length table₀) × RowsFrom (flowAt k rom) (length rom) table p × ((i : ℕ) → length rom ≤ i → getD table i 0 ≡ getD table₀ i 0)
 
 abbrev μ-loop : tie.MeasureT-loop
-μ-loop rom table₀ p₀ table p = p
+μ-loop k rom table₀ p₀ table p = p
 
 loop-holds : tie.Need-loop-holds Inv-loop μ-loop
 loop-holds c = (le-refl _, c .before .before .pre .0, refl, (λ q h e l. absurd (omega arith)), (λ i h. refl))
@@ -51,22 +51,22 @@ loop-less : tie.Need-loop-less Inv-loop μ-loop
 loop-less c = omega arith
 
 -- the row that a turn reckons
-row-now : (c : tie.After-row Inv-loop μ-loop) → Row (flowAt (now (c .before .before .before .before .before .before .args .rom))) (c .before .before .before .loop .p - 2) (c .row .result .figure) (c .row .result .low)
+row-now : (c : tie.After-row Inv-loop μ-loop) → Row (flowAt (c .before .before .before .before .before .before .args .k) (now (c .before .before .before .before .before .before .args .rom))) (c .before .before .before .loop .p - 2) (c .row .result .figure) (c .row .result .low)
 row-now c =
     let s = c .before .before .before .before .before .before in
     let l = c .before .before .before .loop in
-    rw (c .row .ensures) (row-reckoned (flowAt (now (s .args .rom))) (length (now (s .args .rom))) (listing (now (s .args .rom)) (bytes-of (now (s .args .rom)) (λ k. omega (arith, c .before .before .before .before .before .shared-slice-known .given k))) (s .pre .0) (s .pre .1)) (l .table) (l .p - 2) (record { even = omega arith; in-range = omega arith }) (λ q h. l .inv .3 q (omega arith)))
+    rw (c .row .ensures) (row-reckoned (flowAt (s .args .k) (now (s .args .rom))) (length (now (s .args .rom))) (listing (s .args .k) (now (s .args .rom)) (bytes-of (now (s .args .rom)) (λ k. omega (arith, c .before .before .before .before .before .shared-slice-known .given k))) (s .pre .0) (s .pre .1)) (l .table) (l .p - 2) (record { even = omega arith; in-range = omega arith }) (λ q h. l .inv .3 q (omega arith)))
 
 loop-again : tie.Need-loop-again Inv-loop μ-loop
 loop-again c = let s = c .before .before .before .before .before .before in
     let l = c .before .before .before .loop in
     let i = l .inv in
     let r = c .row .result in
-    let row : Row (flowAt (now (s .args .rom))) (l .p - 2) (r .figure) (r .low) = row-now c in (
+    let row : Row (flowAt (s .args .k) (now (s .args .rom))) (l .p - 2) (r .figure) (r .low) = row-now c in (
       omega arith,
       omega arith,
       stored-length (l .table) (l .p - 2) (r .figure) (r .low) ∙ i .2,
-      stored-rows (l .table) (l .p - 2) (r .figure) (r .low) (flowAt (now (s .args .rom))) (length (now (s .args .rom))) (omega arith) (omega arith) row (λ q h. i .3 q (omega arith)),
+      stored-rows (l .table) (l .p - 2) (r .figure) (r .low) (flowAt (s .args .k) (now (s .args .rom))) (length (now (s .args .rom))) (omega arith) (omega arith) row (λ q h. i .3 q (omega arith)),
       (λ j h. stored-rest (l .table) (l .p - 2) (r .figure) (r .low) (length (now (s .args .rom))) (omega arith) j h ∙ i .4 j h),
     )
 

@@ -21,15 +21,15 @@ flow-at-spec =
     let a = b .before .before .before .before .args in
     simp (lt-leb _ _ (b .before .before .if1 .left))
     (c .found .ensures
-    ∙ ap (λ (d : Decoded). foundFlow (a .p) d) (part-found (now (a .rom)) (a .p) (b .begins .ensures) (c .before .before .i .given .1))))
+    ∙ ap (λ (d : Decoded). foundFlow (a .k) (a .p) d) (part-found (now (a .rom)) (a .p) (b .begins .ensures) (c .before .before .i .given .1))))
     (λ c.
     let b = c .before .before in
     let a = b .before .before .before .before .args in
     simp (lt-leb _ _ (b .before .before .if1 .left))
-    (ap (λ (d : Decoded). foundFlow (a .p) d) (part-found (now (a .rom)) (a .p) (b .begins .ensures) (c .enum-told .given .1))))
+    (ap (λ (d : Decoded). foundFlow (a .k) (a .p) d) (part-found (now (a .rom)) (a .p) (b .begins .ensures) (c .enum-told .given .1))))
     (λ c.
     let b = c .before .before .before in
     let a = b .before .before .before .before .args in
     simp (lt-leb _ _ (b .before .before .if1 .left))
     (ap (λ (f : Refusal). Stop f) (c .unheld .ensures)
-    ∙ ap (λ (d : Decoded). foundFlow (a .p) d) (part-found (now (a .rom)) (a .p) (b .begins .ensures) (c .before .enum-told2 .given .1)))))
+    ∙ ap (λ (d : Decoded). foundFlow (a .k) (a .p) d) (part-found (now (a .rom)) (a .p) (b .begins .ensures) (c .before .enum-told2 .given .1)))))

@@ -19,12 +19,12 @@ glance-spec =
     let a = l .before .before .before .args in
     c .branch .ensures
     ∙ rw (c .before .target .ensures, b .before .next .ensures)
-    (branch-word (now (a .rom)) (a .p) (l .before .if1 .left) (l .if2 .left) (b .if3 .taken)))
-    (λ c κs. search needs) (λ c κs. search needs) (λ c. search needs)
+    (branch-word (a .k) (now (a .rom)) (a .p) (l .before .if1 .left) (l .if2 .left) (b .if3 .taken)))
+    (λ c κs. search needs) (λ c κs. search needs) (λ c. search needs) (λ c κs. search needs)
     (λ c.
-    let t = c .before in
+    let t = c .before .before in
     let l = t .before .before .before .before in
     let a = l .before .before .before .args in
-    simp (t .before .before .next .ensures)
-    (told-word (now (a .rom)) (a .p) (l .before .if1 .left) (l .if2 .left) (t .told-by .result)
-    (⊎-elim (λ z. absurd (c .if4 .left z)) (λ f. f (getD (now (a .rom)) (a .p + 1) 0)) (t .told-by .ensures)))))
+    c .onward .ensures ∙ simp (t .before .before .next .ensures)
+    (told-word (a .k) (now (a .rom)) (a .p) (l .before .if1 .left) (l .if2 .left) (t .told-by .result)
+    (⊎-elim (λ z. absurd (c .before .if4 .left z)) (λ f. f (getD (now (a .rom)) (a .p + 1) 0)) (t .told-by .ensures)))))

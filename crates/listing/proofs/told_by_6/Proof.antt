@@ -1,22 +1,26 @@
 use mathlib.Core.Path.{refl}
 use mathlib.Core.Logic.{inl, inr}
-use Prim.Native.Nat.{_%_}
+use borrow.Author.Needs.{needs}
 use Rattle.arith.specs.declared.Width.the-variants.{Byte, Word}
 use Rattle.codes.specs.declared.Place.the-variants.{At, Step}
-use Rattle.codes.specs.declared.Instruction.the-variants.{Move}
-use Rattle.decoder.specs.declared.plan.Plan.the-variants.{Whole}
-use Rattle.listing.proofs.Words.{either-way}
+use Rattle.timing.specs.Made.{baseOf, mostAt, mostOf}
+use Rattle.listing.proofs.Words.{accesses}
 use Rattle.listing.proofs.told_by_6.Statement.{statement}
 use Rattle.listing.proofs.told_by_6.Tie as tie
 
 pub told-by-6-spec : {M : Type 1} → statement M
+unfolding mostOf baseOf mostAt
 told-by-6-spec =
     tie.close
-    (tie.spec (λ c. inr (λ b. rw (c .match .keys1) (refl, refl)))
+    (tie.spec (λ c κs. search needs) (λ c. search needs)
+    (λ c κs. search needs) (λ c. search needs)
+    (λ c κs. search needs) (λ c. search needs)
+    (λ c κs. search needs) (λ c. search needs)
+    (λ c. inr (λ b. rw (c .match .keys1) (refl, refl)))
     (λ c. inr (λ b. rw (c .match .keys2) (refl, refl)))
     (λ c. inr (λ b. rw (c .match .keys3) (refl, refl)))
-    (λ c. inr (λ b. rw (c .match .keys4) (either-way 4 b (λ dir e. Whole (Move dir Byte (At e) (b % 16))) (refl, refl) (refl, refl))))
-    (λ c. inr (λ b. rw (c .match .keys5) (either-way 4 b (λ dir e. Whole (Move dir Word (At e) (b % 16))) (refl, refl) (refl, refl))))
-    (λ c. inr (λ b. rw (c .match .keys6) (either-way 6 b (λ dir e. Whole (Move dir Byte (Step e) (b % 16))) (refl, refl) (refl, refl))))
-    (λ c. inr (λ b. rw (c .match .keys7) (either-way 6 b (λ dir e. Whole (Move dir Word (Step e) (b % 16))) (refl, refl) (refl, refl))))
+    (λ c. inr (λ b. rw (c .before .match .keys4) (accesses _ Byte At b 2 _ (λ e. refl) (λ e. c .dearest .ensures .0))))
+    (λ c. inr (λ b. rw (c .before .match .keys5) (accesses _ Word At b 2 _ (λ e. refl) (λ e. c .dearest2 .ensures .0))))
+    (λ c. inr (λ b. rw (c .before .match .keys6) (accesses _ Byte Step b 4 _ (λ e. refl) (λ e. c .dearest3 .ensures .0))))
+    (λ c. inr (λ b. rw (c .before .match .keys7) (accesses _ Word Step b 4 _ (λ e. refl) (λ e. c .dearest4 .ensures .0))))
     (λ c. inl refl))

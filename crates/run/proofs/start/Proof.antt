@@ -2,8 +2,7 @@ use mathlib.Core.Path.{_≡_}
 use mathlib.Core.Bool.{true, false, _&&_}
 use borrow.Author.Tests.{lt-ltb, le-ltb}
 use lib.ListN.{length}
-use Rattle.memory.specs.Board.{goodBoard}
-use Rattle.step.specs.Step.{goodPc}
+use Rattle.step.specs.Step.{goodStart}
 use Rattle.run.specs.Run.{runOf}
 use borrow.Author.Needs.{needs}
 use Rattle.run.proofs.start.Statement.{statement}
@@ -18,10 +17,10 @@ start-spec =
     (λ c. search needs) (λ c. search needs)
     (λ c.
     let s = c .before .before .before .before .before .before .before .before .before .before .before .before .before .before .before .args in
-    let g : goodBoard (s .b) (length (s .rom .now)) (length (s .ram .now)) && goodPc (s .r .pc) ≡ true = cc in
+    let g : goodStart (s .b) (s .rom .now) (s .ram .now) (s .r) ≡ true = cc in
     rw (le-ltb _ _ (c .before .before .before .before .before .before .before .before .before .before .before .if1 .left), g) (c .before .before .before .before .repeat .ensures))
     (λ c κs. search needs) (λ c. search needs)
     (λ c.
     let s = c .before .before .before .before .before .before .before .before .before .args in
-    let g : goodBoard (s .b) (length (s .rom .now)) (length (s .ram .now)) && goodPc (s .r .pc) ≡ false = cc in
+    let g : goodStart (s .b) (s .rom .now) (s .ram .now) (s .r) ≡ false = cc in
     rw (le-ltb _ _ (c .before .before .before .before .before .if1 .left), g) (cc)))

@@ -1,3 +1,4 @@
+use mathlib.Core.Path.{sym}
 use Rattle.transfer.proofs.Laws.{push-told}
 use borrow.Author.Needs.{needs}
 use Rattle.transfer.proofs.called.Statement.{statement}
@@ -6,5 +7,5 @@ use Rattle.transfer.proofs.called.Tie as tie
 pub called-spec : {M : Type 1} → statement M
 called-spec =
     tie.close
-    (tie.spec (λ c κs. search needs) (λ c κs. search needs) (λ c. search needs)
-    (λ c. λ pc. rw (c .ended .ensures) (push-told _ _ _ _ pc _ _ _ _ _ _ (c .before .before .before .call .ensures pc))))
+    (tie.spec (λ c κs. search needs) (λ c κs. search needs) (λ c κs. search needs) (λ c. search needs) (λ c κs. search needs) (λ c. search needs)
+    (λ c. λ pc. rw (c .ended .ensures) (push-told _ _ _ _ pc _ _ _ _ _ _ _ (rw (sym (c .before .before .get .ensures)) (c .before .access .ensures .0)) (c .before .before .before .before .before .before .call .ensures pc))))

@@ -3,10 +3,10 @@ use Rattle.h8.proofs.places.follow.Statement.{statement}
 use Rattle.h8.proofs.places.follow.Tie as tie
 
 abbrev Inv-loop : tie.InvT-loop
-Inv-loop rom table entry plain p₀ total₀ turns₀ p total turns = Unit {0}
+Inv-loop k rom table entry plain p₀ total₀ turns₀ p total turns = Unit {0}
 
 abbrev μ-loop : tie.MeasureT-loop
-μ-loop rom table entry plain p₀ total₀ turns₀ p total turns = turns
+μ-loop k rom table entry plain p₀ total₀ turns₀ p total turns = turns
 
 -- src/places.rt:21:5
 loop-holds : tie.Need-loop-holds Inv-loop μ-loop

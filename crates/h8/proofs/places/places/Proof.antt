@@ -3,10 +3,10 @@ use Rattle.h8.proofs.places.places.Statement.{statement}
 use Rattle.h8.proofs.places.places.Tie as tie
 
 abbrev Inv-loop : tie.InvT-loop
-Inv-loop rom table from to plain p₀ turns₀ p turns = Unit {0}
+Inv-loop k rom table from to plain p₀ turns₀ p turns = Unit {0}
 
 abbrev μ-loop : tie.MeasureT-loop
-μ-loop rom table from to plain p₀ turns₀ p turns = turns
+μ-loop k rom table from to plain p₀ turns₀ p turns = turns
 
 -- src/places.rt:43:5
 loop-holds : tie.Need-loop-holds Inv-loop μ-loop

@@ -12,16 +12,17 @@ h8-figure-spec =
     tie.close
     (tie.spec
     (λ c. (answer-short (c .if1 .taken), ((λ h e. absurd (omega arith)), (λ zero. absurd (omega arith)))))
-    (λ c κs. search needs) (λ c κs. search needs) (λ c. search needs) (λ c. search needs)
+    (λ c κs. search needs) (λ c κs. search needs) (λ c κs. search needs) (λ c. search needs) (λ c. search needs)
     (λ c.
     let f = c .before .before .before .before .before .before in
-    let s = f .before .before .before .before .before .before .args in
+    let s = f .before .before .before .before .before .before .before .before .args in
+    let k = f .before .before .site-in .ensures in
     let told = c .before .before .tell-figure .ensures in
     let v = f .figure .result in
     let p = f .figure .ensures in (
-      figure-call (f .before .before .if1 .left) (p .0) told,
+      figure-call k (f .before .before .before .if1 .left) (p .0) told,
       (
-        figure-exactly (now (s .answer)) (now (s .rom)) (s .entry) (now (s .table)) v told (p .1 .0),
-        figure-kept (now (s .answer)) (now (s .rom)) (s .entry) v told (p .1 .1),
+        figure-exactly (now (s .answer)) (now (s .board)) (now (s .rom)) (s .entry) k v told (now (s .table)) (p .1 .0),
+        figure-kept (now (s .answer)) (now (s .board)) (now (s .rom)) (s .entry) k v told (p .1 .1),
       ),
     )))

@@ -7,6 +7,6 @@ pub step-lent-spec : {M : Type 1} → statement M
 unfolding stepLent
 step-lent-spec =
     tie.close
-    (tie.spec (λ c κs. search needs) (λ c κs. search needs) (λ c κs. search needs) (λ c. search needs)
+    (tie.spec (λ c κs. search needs) (λ c κs. search needs) (λ c κs. search needs) (λ c κs. search needs) (λ c. search needs)
     (λ c. search needs) (λ c. search needs)
-    (λ c. rw (← c .before .before .before .before .before .before .before .before .before .before .registers-in .ensures, ← c .before .before .before .before .before .before .before .before .before .single .ensures, ← c .before .before .before .before .tell-step .ensures)))
+    (λ c. rw (← c .before .before .before .before .before .before .before .before .before .before .before .before .before .board-in .ensures, ← c .before .before .before .before .before .before .before .before .before .before .registers-in .ensures, ← c .before .before .before .before .before .before .before .before .before .single .ensures, ← c .before .before .before .before .tell-step .ensures)))

@@ -7,5 +7,5 @@ states-plain-spec =
     tie.close
     (tie.spec (λ c. search needs) (λ c κs. search needs) (λ c. search needs) (λ c. search needs)
     (λ c κs. search needs) (λ c. search needs) (λ c. search needs) (λ c κs. search needs)
-    (λ c. rw (c .before .before .before .before .d .given .1, ← (c .before .before .states .ensures)) (c .number .ensures))
+    (λ c. rw (c .before .before .before .before .d .given .1, ← (c .before .before .counted .ensures)) (c .number .ensures))
     (λ c. rw (c .before .before .enum-told .given .1) (c .bytes .ensures)))

@@ -7,5 +7,5 @@ states-words-spec =
     tie.close
     (tie.spec (λ c. search needs) (λ c κs. search needs) (λ c. search needs) (λ c κs. search needs)
     (λ c. search needs) (λ c κs. search needs)
-    (λ c. rw (c .before .before .before .d .given .1, ← (c .before .states .ensures)) (c .decimal .ensures))
+    (λ c. rw (c .before .before .before .d .given .1, ← (c .before .counted .ensures)) (c .decimal .ensures))
     (λ c. rw (c .before .enum-told .given .1) (c .put .ensures)))

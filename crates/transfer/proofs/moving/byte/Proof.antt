@@ -16,4 +16,4 @@ byte-spec =
     (tie.spec (λ c κs. search needs) (λ c κs. search needs) (λ c κs. search needs) (λ c. search needs)
     (λ c. rw (c .before .before .before .before .before .if1 .taken) (c .before .before .step-byte .ensures))
     (λ c. search needs)
-    (λ c. let a = c .before .before .before .before .before .before .before .before .before .before .args in (rw (c .before .before .before .before .before .aimed .ensures) at (c .before .before .transfer-byte .ensures (a .pc))) ∙ aimed-moves (dirOf (a .k)) Byte (a .er .now) (a .pc) (a .f) (a .b) (a .rom .now) (a .ram .now) 16 2 4 (a .x) (λ y. refl) (λ y. refl) (λ e. refl) (λ e d. refl) (λ e. refl) (λ e. refl) (λ e. refl) (a .k % 8) (ne-eqb _ _ (c .before .before .before .before .before .before .before .if1 .left))))
+    (λ c. let a = c .before .before .before .before .before .before .before .before .before .before .args in (rw (c .before .before .before .before .before .aimed .ensures) at (c .before .before .transfer-byte .ensures (a .pc))) ∙ aimed-moves (dirOf (a .k)) Byte (a .er .now) (a .pc) (a .f) (a .b) (a .rom .now) (a .ram .now) 16 2 2 (a .x) (λ y. refl) (λ y. refl) (λ e. refl) (λ e d. refl) (λ e. refl) (λ e. refl) (λ e. refl) (a .k % 8) (ne-eqb _ _ (c .before .before .before .before .before .before .before .if1 .left))))

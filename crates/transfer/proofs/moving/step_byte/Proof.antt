@@ -1,3 +1,4 @@
+use mathlib.Core.Path.{sym}
 use borrow.Author.Tests.{lt-ltb, le-ltb}
 use Rattle.transfer.proofs.Laws.{step-loads, step-stores}
 use borrow.Author.Needs.{needs}
@@ -8,7 +9,8 @@ pub step-byte-spec : {M : Type 1} → statement M
 step-byte-spec =
     tie.close
     (tie.spec (λ c. search needs) (λ c. search needs) (λ c κs. search needs) (λ c κs. search needs) (λ c κs. search needs) (λ c κs. search needs)
+    (λ c. search needs) (λ c κs. search needs) (λ c κs. search needs) (λ c κs. search needs) (λ c κs. search needs) (λ c. search needs)
     (λ c κs. search needs) (λ c. search needs)
-    (λ c. let a = c .before .before .before .before .before .before .before .before .args in rw (lt-ltb _ _ (c .before .before .before .before .if1 .taken), c .ended .ensures, c .before .before .before .before .before .next .ensures) (step-loads _ _ _ (a .ram .now) _ _ _ _ _ _ _ _ 2 (c .before .pop .ensures (a .pc))))
+    (λ c. let a = c .before .before .before .before .before .before .before .before .before .before .before .args in rw (lt-ltb _ _ (c .before .before .before .before .before .before .before .if1 .taken), c .ended .ensures, c .before .before .before .before .before .before .before .before .next .ensures) (step-loads _ _ _ (a .ram .now) _ _ _ _ _ _ _ _ _ 2 (rw (sym (c .before .before .before .before .before .get .ensures)) (c .before .access .ensures .0)) (c .before .before .pop .ensures (a .pc))))
     (λ c. search needs)
-    (λ c. let a = c .before .before .before .before .before .before .before .before .before .before .args in rw (le-ltb _ _ (c .before .before .before .before .before .before .if1 .left), c .ended2 .ensures, c .before .before .before .before .before .before .before .next .ensures) (step-stores _ _ _ _ _ _ _ _ _ _ _ _ 2 (c .before .before .before .push .ensures (a .pc)))))
+    (λ c. let a = c .before .before .before .before .before .before .before .before .before .before .before .before .before .args in rw (le-ltb _ _ (c .before .before .before .before .before .before .before .before .before .if1 .left), c .ended2 .ensures, c .before .before .before .before .before .before .before .before .before .before .next .ensures) (step-stores _ _ _ _ _ _ _ _ _ _ _ _ _ 2 (rw (sym (c .before .before .get2 .ensures)) (c .before .access2 .ensures .0)) (c .before .before .before .before .before .before .push .ensures (a .pc)))))
