@@ -4,6 +4,8 @@
    nothing between calls, allocates nothing, prints nothing and calls nothing.
 
    WHAT CHANGED, the newest first. Programs that it concerns have to be compiled again with this header.
+   - h8_step says what the instruction read and wrote. Its answer has H8_STEP_ANSWER numbers, 17 in place of 4; the first four
+     are what they were. It concerns every program that calls h8_step: a shorter `answer` is refused by 13.
    - The board carries a port area, where a data access takes more states; THE BOARD below describes it. So the board is lent,
      as four numbers: h8_step and h8_run take it in place of `base`, h8_figure and h8_way before `rom`. It concerns every
      program that calls one of these four. Without ports the board is { base, base, base, 8 }, and its states and figures are
@@ -181,10 +183,16 @@ uint32_t h8_decode(const uint8_t *bytes, size_t n, uint32_t *fields, size_t fiel
 uint32_t h8_encode(const uint32_t *fields, size_t fields_n, uint8_t *out, size_t out_n, uint32_t *answer, size_t answer_n);
 
 /* One instruction, at PC.
-   answer, 4 numbers: [number, place, group, states].
-   Looks for: 13 (answer_n below 4: nothing written), 13 (regs_n below 10: place 10), 1, 2, 4, 15 or 3, 5, 6, 7, 14.
+   answer, 17 numbers: [number, place, group, states, count, then three for each of four accesses: address, bytes, write].
+   Looks for: 13 (answer_n below 17: nothing written), 13 (regs_n below 10: place 10), 1, 2, 4, 15 or 3, 5, 6, 7, 14.
    0: `regs` and `ram` are as the instruction leaves them, `states` is what it took, each access at the cost of its place.
-   Else both are as they were, states 0. */
+   Else both are as they were, states 0.
+   The accesses are those that the instruction made to data, `count` of them, in the order made; what it fetched is not among
+   them. `address` is the place itself: below 2^24, and even for a word. `bytes` is 1 or 2: a longword is two words, the upper
+   first. `write` is 0 for a read and 1 for a write. So JSR @@aa:8 has two reads and then two writes, RTS two reads, and BSET
+   in memory a read and a write of its byte. Accesses past the count are 0, and after a refusal the count is 0.
+   `states` is what the instruction takes to be fetched and worked out, and for each access what its place costs. */
+#define H8_STEP_ANSWER 17u
 uint32_t h8_step(const uint32_t *board, size_t board_n, const uint8_t *rom, size_t rom_n, uint8_t *ram, size_t ram_n,
                  uint32_t *regs, size_t regs_n, uint32_t *answer, size_t answer_n);
 

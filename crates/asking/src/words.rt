@@ -11,6 +11,7 @@ pub enum Kind {
     BudgetOption,
     StopOption,
     ErOption,
+    TraceOption,
     NoOption,
 }
 
@@ -64,6 +65,9 @@ pub fn kind_of(s: &[u8]) -> Kind
     }
     if same(s, b"--er") {
         return Kind::ErOption;
+    }
+    if same(s, b"--trace") {
+        return Kind::TraceOption;
     }
     if two_dashes(s) {
         Kind::NoOption

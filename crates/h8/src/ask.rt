@@ -8,6 +8,7 @@ use asking::Use;
 pub struct Request {
     pub count: usize,
     pub plain: bool,
+    pub trace: usize,
     pub words: usize,
     pub first: usize,
     pub second: usize,
@@ -56,6 +57,7 @@ fn width(k: Kind) -> usize
         Kind::BudgetOption => 2,
         Kind::StopOption => 2,
         Kind::ErOption => 3,
+        Kind::TraceOption => 1,
         Kind::NoOption => 1,
     }
 }
@@ -93,6 +95,7 @@ fn noted(q: Request, k: Kind, i: usize) -> Request {
         Kind::BudgetOption => r.budget = i,
         Kind::StopOption => r.stop = i,
         Kind::ErOption => r.er = i,
+        Kind::TraceOption => r.trace = i,
         Kind::NoOption => r.unknown = i,
     }
     r
@@ -102,6 +105,7 @@ fn none(count: usize) -> Request {
     Request {
         count: count,
         plain: false,
+        trace: 0,
         words: 0,
         first: 0,
         second: 0,

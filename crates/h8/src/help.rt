@@ -7,8 +7,9 @@ pub fn show_help() {
   h8 figure ROM ENTRY [GAP]      the longest way from ENTRY to its RTS, in states; whether it fits GAP states
   h8 way ROM ENTRY               that way, instruction by instruction
   h8 list ROM [FROM [TO]]        a listing of the places FROM to TO, with the figure of each
-  h8 run ROM ENTRY --ram BASE LENGTH [--budget N] [--stop ADDRESS] [--er N VALUE]...
-                                 runs from ENTRY; prints registers, flags, steps, states and why it ended
+  h8 run ROM ENTRY --ram BASE LENGTH [--budget N] [--stop ADDRESS] [--er N VALUE]... [--trace]
+                                 runs from ENTRY; prints registers, flags, steps, states and why it ended;
+                                 with --trace each step before it, and what it read and wrote
   h8 help                        this text
 
 ROM is a file, its first byte at address 0: an even number of bytes, at most 524288.

@@ -35,7 +35,7 @@ fn surplus(q: Request, u: Use) -> usize {
 
 // An option of `h8 run` beside another use. Ports are of no use to `h8 help` either.
 fn astray(q: Request, u: Use) -> usize {
-    let i = either(either(q.ram, q.budget), either(q.stop, q.er));
+    let i = either(either(q.ram, q.budget), either(q.stop, either(q.er, q.trace)));
     match u {
         Use::ForFigure => i,
         Use::ForWay => i,
@@ -60,7 +60,7 @@ fn faulty(q: Request, u: Use) -> bool {
         q.plain,
         b"the option",
         q.unknown,
-        b"--plain, --port, --ram, --budget, --stop or --er; `h8 help` says more",
+        b"--plain, --port, --ram, --budget, --stop, --er or --trace; `h8 help` says more",
     ) {
         return true;
     }
@@ -247,24 +247,30 @@ fn with_room(q: Request, u: Use) {
     with_arrays(q, u, &mut rom, &mut table);
 }
 
-fn run_file(q: Request, rom: &mut [u8], ram: &mut [u8]) {
+fn run_file(q: Request, rom: &mut [u8], ram: &mut [u8], again: &mut [u8]) {
     let Loaded::Bytes(n) = file::load(q.plain, q.second, rom) else {
         return;
     };
     if n <= rom.len() {
-        runs::show_run(q, &rom[0..n], ram);
+        runs::show_run(q, &rom[0..n], ram, again);
     }
 }
 
-fn run_arrays(q: Request, rom: &mut [u8; 524290], ram: &mut [u8; 65536]) {
-    run_file(q, rom, ram);
+fn run_arrays(
+    q: Request,
+    rom: &mut [u8; 524290],
+    ram: &mut [u8; 65536],
+    again: &mut [u8; 65536],
+) {
+    run_file(q, rom, ram, again);
 }
 
-// The same for a run, with the longest working memory.
+// The same for a run, with the longest working memory, and one more for a trace of it.
 fn run_room(q: Request) {
     let mut rom = [0u8; 524290];
     let mut ram = [0u8; 65536];
-    run_arrays(q, &mut rom, &mut ram);
+    let mut again = [0u8; 65536];
+    run_arrays(q, &mut rom, &mut ram, &mut again);
 }
 
 fn main() {

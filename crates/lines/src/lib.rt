@@ -4,6 +4,7 @@ mod parts;
 mod places;
 mod ports;
 mod runs;
+mod traces;
 
 pub use figures::Gap;
 pub use figures::figure;
@@ -19,3 +20,5 @@ pub use ports::ports_wrong;
 pub use runs::Given;
 pub use runs::ran;
 pub use runs::registers;
+pub use traces::trace_heading;
+pub use traces::traced;
