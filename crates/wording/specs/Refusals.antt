@@ -5,7 +5,7 @@ use mathlib.Core.List.{List, _++_}
 use lib.Dec.{eqb}
 use lib.ListN.{length}
 use Rattle.refusal.specs.declared.Refusal.{Refusal}
-use Rattle.refusal.specs.declared.Refusal.the-variants.{BadBoard, FetchOutside, UnknownCode, CutShort, ReadOutside, WriteOutside, NoAdjustRow, BadEntry, NotFollowed, NotUpward, NotInstruction, BudgetTooLarge, LentTooShort, DivideFails, LeftOut}
+use Rattle.refusal.specs.declared.Refusal.the-variants.{BadBoard, FetchOutside, UnknownCode, CutShort, ReadOutside, WriteOutside, NoAdjustRow, BadEntry, NotFollowed, NotUpward, NotInstruction, BudgetTooLarge, LentTooShort, DivideFails, LeftOut, TooDeep, BadVersion, BadLength, Unfinished, ReplayEnded, TooLong}
 use Rattle.paths.specs.declared.Flow.{Flow}
 use Rattle.paths.specs.declared.Flow.the-variants.{Next, Jump, Either, Ends, Stop}
 use Rattle.site.specs.Costs.{noPorts}
@@ -42,7 +42,7 @@ abbrev pub entryText : ℕ → ℕ → List ℕ
 entryText n p = ascii "8" ++ (atPlace p ++ (ascii "the entry is odd or outside the ROM, which has " ++ (decimalOf n ++ ascii " bytes")))
 
 abbrev pub followText : List ℕ → ℕ → List ℕ
-followText rom p = ascii "9" ++ (atPlace p ++ (standsAt rom p ++ ascii "; calls, and jumps by a register or a vector, are not followed"))
+followText rom p = ascii "9" ++ (atPlace p ++ (standsAt rom p ++ ascii "; calls and jumps by a register or a vector are not followed"))
 
 -- where a way that does not go up leads; ports change nothing there
 abbrev pub backOf : ℕ → Flow → ℕ
@@ -69,6 +69,23 @@ groupName g =
 abbrev pub leftOutText : ℕ → ℕ → List ℕ
 leftOutText p g = ascii "15" ++ (atPlace p ++ (groupName g ++ (ascii ", group " ++ (decimalOf g ++ ascii ", which this set leaves out"))))
 
+-- document 02, W9: the ninth level, and a total above 1,000,000,000
+abbrev pub deepText : List ℕ → ℕ → List ℕ
+deepText rom p = ascii "16" ++ (atPlace p ++ (standsAt rom p ++ ascii " is a ninth level of calls; a routine that calls itself has no last one"))
+
+abbrev pub longText : ℕ → List ℕ
+longText p = ascii "22" ++ (atPlace p ++ ascii "the longest way takes more than 1000000000 states")
+
+-- document 02, W7: the place is a byte of the recording
+abbrev pub atByte : ℕ → List ℕ
+atByte p = ascii " at byte " ++ (decimalOf p ++ ascii " of the recording: ")
+
+abbrev pub lengthText : ℕ → List ℕ
+lengthText p = ascii "18" ++ (atByte p ++ ascii "a record's length is not 9")
+
+abbrev pub unfinishedText : ℕ → List ℕ
+unfinishedText p = ascii "19" ++ (atByte p ++ ascii "it ends within the record that begins here, or is empty")
+
 abbrev pub refusalText : List ℕ → Refusal → List ℕ
 refusalText rom BadBoard = ascii "1: the board is wrong, or PC is odd or at least 0x1000000"
 refusalText rom (FetchOutside p) = outsideText (length rom) p
@@ -85,3 +102,9 @@ refusalText rom BudgetTooLarge = ascii "12: the budget is over 1000000 steps"
 refusalText rom (LentTooShort n) = shortText n
 refusalText rom (DivideFails p) = divideText rom p
 refusalText rom (LeftOut x) = leftOutText (x % 2 ^ 24) (x / 2 ^ 24)
+refusalText rom (TooDeep p) = deepText rom p
+refusalText rom BadVersion = ascii "17: the recording's version is not 1"
+refusalText rom (BadLength p) = lengthText p
+refusalText rom (Unfinished p) = unfinishedText p
+refusalText rom ReplayEnded = ascii "20: the replay has ended"
+refusalText rom (TooLong p) = longText p

@@ -5,7 +5,7 @@ ghost use Rattle.site.specs.Costs.{noPorts};
 ghost use Rattle.listing.specs.Listing.{flowAt};
 ghost use Rattle.text.specs.Lines.{Adds};
 ghost use Rattle.wording.specs.Standing.{byteText, bytesAt, notHeldText, noCodeText, foundText, standsAt};
-ghost use Rattle.wording.specs.Refusals.{atPlace, outsideText, unknownText, cutText, readText, writeText, adjustText, divideText, entryText, followText, backOf, upwardText, shortText, groupName, leftOutText, refusalText};
+ghost use Rattle.wording.specs.Refusals.{atPlace, outsideText, unknownText, cutText, readText, writeText, adjustText, divideText, entryText, followText, backOf, upwardText, shortText, groupName, leftOutText, deepText, longText, atByte, lengthText, unfinishedText, refusalText};
 use codes::Decoded;
 use paths::Flow;
 use refusal::Refusal;
@@ -184,7 +184,7 @@ fn follow(l: Line, rom: &[u8], p: u32) -> Line
     let c = stands(b, rom, p);
     text::bytes(
         c,
-        b"; calls, and jumps by a register or a vector, are not followed",
+        b"; calls and jumps by a register or a vector are not followed",
     )
 }
 
@@ -250,6 +250,54 @@ fn left_out(l: Line, p: u32, g: u32) -> Line
     text::bytes(e, b", which this set leaves out")
 }
 
+fn deep(l: Line, rom: &[u8], p: u32) -> Line
+    ensures { λ r. ⌜ Adds l (deepText (now (rom .entry)) p) r ⌝ }
+{
+    let a = text::bytes(l, b"16");
+    let b = at_place(a, p);
+    let c = stands(b, rom, p);
+    text::bytes(
+        c,
+        b" is a ninth level of calls; a routine that calls itself has no last one",
+    )
+}
+
+fn long(l: Line, p: u32) -> Line
+    ensures { λ r. ⌜ Adds l (longText p) r ⌝ }
+{
+    let a = text::bytes(l, b"22");
+    let b = at_place(a, p);
+    text::bytes(b, b"the longest way takes more than 1000000000 states")
+}
+
+// A place in a recording.
+fn at_byte(l: Line, p: u32) -> Line
+    ensures { λ r. ⌜ Adds l (atByte p) r ⌝ }
+{
+    let a = text::bytes(l, b" at byte ");
+    let b = text::decimal(a, p as u64);
+    text::bytes(b, b" of the recording: ")
+}
+
+fn bad_length(l: Line, p: u32) -> Line
+    ensures { λ r. ⌜ Adds l (lengthText p) r ⌝ }
+{
+    let a = text::bytes(l, b"18");
+    let b = at_byte(a, p);
+    text::bytes(b, b"a record's length is not 9")
+}
+
+fn unfinished(l: Line, p: u32) -> Line
+    ensures { λ r. ⌜ Adds l (unfinishedText p) r ⌝ }
+{
+    let a = text::bytes(l, b"19");
+    let b = at_byte(a, p);
+    text::bytes(
+        b,
+        b"it ends within the record that begins here, or is empty",
+    )
+}
+
 // A refusal: its number, its place, what stands there and what that means.
 pub fn refusal(l: Line, rom: &[u8], f: Refusal) -> Line
     ensures { λ r. ⌜ Adds l (refusalText (now (rom .entry)) f) r ⌝ }
@@ -276,5 +324,11 @@ pub fn refusal(l: Line, rom: &[u8], f: Refusal) -> Line
         Refusal::LentTooShort(n) => short(l, n),
         Refusal::DivideFails(p) => divide(l, rom, p),
         Refusal::LeftOut(x) => left_out(l, x % 16777216, x / 16777216),
+        Refusal::TooDeep(p) => deep(l, rom, p),
+        Refusal::BadVersion => text::bytes(l, b"17: the recording's version is not 1"),
+        Refusal::BadLength(p) => bad_length(l, p),
+        Refusal::Unfinished(p) => unfinished(l, p),
+        Refusal::ReplayEnded => text::bytes(l, b"20: the replay has ended"),
+        Refusal::TooLong(p) => long(l, p),
     }
 }
