@@ -1,9 +1,12 @@
 /* h8.h: the H8/300H processor in proved software, for programs in C.
 
-   Six functions over numbers and lent arrays. An array is lent as a pointer and its length in elements. The library keeps
+   Ten functions over numbers and lent arrays. An array is lent as a pointer and its length in elements. The library keeps
    nothing between calls, allocates nothing, prints nothing and calls nothing.
 
    WHAT CHANGED, the newest first. Programs that it concerns have to be compiled again with this header.
+   - New: h8_replay_begin, h8_replay_take and h8_replay_end, for a recording that arrives in cuts, with refusal 20. They concern
+     no other function.
+   - New: h8_replay, which replays a run against a recording, with refusals 17, 18 and 19. It concerns no other function.
    - The board carries a port area, where a data access takes more states; THE BOARD below describes it. So the board is lent,
      as four numbers: h8_step and h8_run take it in place of `base`, h8_figure and h8_way before `rom`. It concerns every
      program that calls one of these four. Without ports the board is { base, base, base, 8 }, and its states and figures are
@@ -38,6 +41,10 @@
      13   a lent array is too short                                                  the length it needs
      14   a zero divisor, or a quotient that does not fit                            the instruction
      15   a code of the manual that this set leaves out, or its beginning            the address
+     17   the version byte of a recording is not 1                                   0
+     18   the length of a record is not 9                                            the byte where the record begins
+     19   a record is unfinished, or the recording is empty                          the byte where it begins
+     20   a delivery to a replay that is over, or a second end                       0
 
    Each function also writes this number, its place and its group to the first three numbers of the lent array `answer`. The
    group is 0 with every number but 15. There it is the group of the code that is left out: 3 MOV with displacement d:24,
@@ -48,8 +55,9 @@
    written. A `regs` or a `fields` to be filled that is too short is looked for next. After these two each function's own
    order follows.
 
-   On a refusal nothing lent changes but `answer`, with two exceptions: h8_run keeps the steps it completed, and h8_figure
-   fills its table on 2, 3, 4, 9, 10 and 15.
+   On a refusal nothing lent changes but `answer`, with these exceptions: h8_run, h8_replay and h8_replay_take keep the steps
+   they completed; the functions of a replay in cuts leave in `replay` where it stands; and h8_figure fills its table on 2, 3, 4,
+   9, 10 and 15.
 
    AN EXAMPLE: how many states a routine at 0x100 can take, on boards with ports from 0xFFFF20 on behind a bus of 8 bits.
 
@@ -197,6 +205,70 @@ uint32_t h8_step(const uint32_t *board, size_t board_n, const uint8_t *rom, size
 enum h8_ending { H8_STOPPED, H8_SPENT, H8_REFUSED };
 uint32_t h8_run(const uint32_t *board, size_t board_n, const uint8_t *rom, size_t rom_n, uint8_t *ram, size_t ram_n,
                 uint32_t *regs, size_t regs_n, uint32_t stop, uint32_t budget, uint64_t *answer, size_t answer_n);
+
+/* A RECORDING, as a logic probe writes it: the version byte 1, then one record for each instruction, eleven bytes:
+
+     bytes 0 and 1     the length of the rest, 9
+     bytes 2 to 5      PC
+     byte 6            the condition byte
+     bytes 7 to 10     the states since the start of the recording
+
+   all with the upper byte first. A record describes the moment before its instruction, so that the first one has the PC and the
+   condition byte of the start, and 0 states. The record of number c, counted from 0, begins at byte 11 * c + 1.
+
+   h8_replay replays a whole recording `file` from the given registers: each record is compared with PC, condition byte and
+   states here, in this order, and where all three agree one step is taken, after the last record too.
+   answer, 7 numbers: [number, place, group, records agreed, the sum of the states of their steps, report, field]; the report of
+   every refusal is H8_HALTED. As many steps are taken as records agreed, so after H8_DIFFERS the record of this number is the
+   first that differs, in `field`, and no step was taken for it; after H8_AGREED it is the length of the recording in records.
+   Looks for: 13 (answer_n below 7: nothing written), 13 (regs_n below 10: place 10), 1; in these cases no step is done. Then in
+   the file: 19 (it is empty: place 0), 17, and record after record: 12 at the first byte of a record beyond 1,000,000 steps,
+   whatever that record holds; 18 as soon as both bytes of its length are there, whatever follows; 19 if the file ends inside the
+   record; a difference; a refusal of the step, whose record agreed and is not counted.
+   It returns 0 if all agreed or a record differs. `regs` and `ram` are as the completed steps leave them, whatever the report.
+   (H8_MORE is no report of this function.) */
+enum h8_report { H8_AGREED, H8_DIFFERS, H8_HALTED, H8_MORE };
+enum h8_differs { H8_NO_FIELD, H8_FIELD_PC, H8_FIELD_CONDITION, H8_FIELD_STATES };
+#define H8_RECORD 11u
+uint32_t h8_replay(const uint32_t *board, size_t board_n, const uint8_t *rom, size_t rom_n, uint8_t *ram, size_t ram_n,
+                   uint32_t *regs, size_t regs_n, const uint8_t *file, size_t file_n, uint64_t *answer, size_t answer_n);
+
+/* A REPLAY BETWEEN TWO CALLS. A recording that arrives in cuts is replayed as it comes: h8_replay_begin once, h8_replay_take for
+   each delivery, h8_replay_end when no more will come. However it was cut, the answer of h8_replay_end and the registers, `ram`,
+   records and states after it are those of h8_replay on the whole recording. A cut may fall anywhere, inside a record too, and a
+   delivery may be empty. Between the calls the replay is kept by the caller, in `replay`, 24 numbers:
+
+     0 to 9     the registers, as in `regs`
+     10         the records that agreed; as many steps were taken
+     11, 12     the states of these steps, upper 32 bits first
+     13         0: the version byte is awaited; 1: records; 2: a difference or a refusal was told; 3: the end was declared
+     14 to 18   with 1 there: how many bytes of the next record have come, 0 to 10, and its length, PC, condition byte and
+                states as far as they have come
+     19 to 23   with 2 there: report and field, and the number, place and group of a refusal, as in the answer
+
+   and 0 where nothing is said. The caller lends the same numbers again, and the memories and the board as they were. Any
+   numbers are answered: they are taken as they stand, a number of 13 over 3 as 3, of 19 over 2 as 2, of 20 that is no field as
+   H8_FIELD_STATES, of 21 that is no refusal's as 1, and condition bytes by their remainder by 256. What the three functions
+   leave there they read back as it was.
+
+   answer, 7 numbers, as h8_replay's; the report is H8_MORE, and 0 is returned, while all agreed so far and more may come. The
+   other reports come as soon as the byte that decides them; bytes after it, in the same delivery, are passed over. 19 comes from
+   h8_replay_end alone.
+
+   h8_replay_begin looks for: 13 (answer_n below 7: nothing written), 13 (replay_n below 24: place 24), 13 (regs_n below 10:
+   place 10), 1. After 1 the replay is over, and h8_replay_end repeats it.
+   h8_replay_take looks for: 13 (answer_n below 7), 13 (replay_n below 24: place 24), 20 (a difference or a refusal was told, or
+   the end declared; for an empty delivery too: nothing changes); then as h8_replay.
+   h8_replay_end looks for: 13 (answer_n below 7), 13 (replay_n below 24: place 24), 20 (the end was declared before); then 19,
+   or it repeats the difference or the refusal, or all agreed. */
+enum h8_replay_number {
+    H8_REPLAY_RECORDS = 10, H8_REPLAY_STATES = 11, H8_REPLAY_STAGE = 13, H8_REPLAY_READ = 14, H8_REPLAY_TOLD = 19, H8_REPLAY = 24
+};
+uint32_t h8_replay_begin(const uint32_t *board, size_t board_n, const uint8_t *rom, size_t rom_n, const uint8_t *ram, size_t ram_n,
+                         const uint32_t *regs, size_t regs_n, uint32_t *replay, size_t replay_n, uint64_t *answer, size_t answer_n);
+uint32_t h8_replay_take(const uint32_t *board, size_t board_n, const uint8_t *rom, size_t rom_n, uint8_t *ram, size_t ram_n,
+                        uint32_t *replay, size_t replay_n, const uint8_t *bytes, size_t n, uint64_t *answer, size_t answer_n);
+uint32_t h8_replay_end(uint32_t *replay, size_t replay_n, uint64_t *answer, size_t answer_n);
 
 /* The figure of the routine at `entry`: the largest total of states over all paths from there to an RTS. On them an access at
    an address in the code counts what its place costs. Where an address from a register will lie is not known, so an access

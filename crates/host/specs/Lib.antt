@@ -4,3 +4,6 @@ pub mod Steps
 pub mod Figures
 pub mod MirrorCodes
 pub mod MirrorSteps
+pub mod Replays
+pub mod MirrorReplays
+pub mod Cuts
