@@ -92,6 +92,18 @@ static void figure(uint32_t entry, const char *gap)
     printf(fits ? "left %llu\n" : "missing %llu\n", (ull)(fits ? states - answer[3] : answer[3] - states));
 }
 
+/* The figure of the routine that is called at p, which the table has; 0 where nothing is called. */
+static uint64_t called_at(uint32_t p)
+{
+    struct decoded d;
+    const uint32_t *f = d.fields;
+    if (decode(rom + p, rom_n - p, &d) || (f[H8_KIND] != H8_BSR && (f[H8_KIND] != H8_JSR || f[H8_FORM] != H8_DIRECT)))
+        return 0;
+    uint32_t by = (uint32_t)(f[H8_FORM] == H8_NEAR ? (int8_t)f[H8_VALUE] : (int16_t)f[H8_VALUE]);
+    uint32_t to = (f[H8_KIND] == H8_JSR ? f[H8_VALUE] : p + f[H8_LENGTH] + by) & 0xFFFFFE;
+    return to < rom_n ? table[to] : 0;
+}
+
 static void way(uint32_t entry)
 {
     uint64_t answer[4], total = 0;
@@ -102,6 +114,7 @@ static void way(uint32_t entry)
     uint64_t longest = answer[3];
     for (uint64_t p = entry; p != H8_NONE; p = answer[3]) {
         print_code((uint32_t)p, &total);
+        total += called_at((uint32_t)p);
         printf("total %llu\n", (ull)total);
         if (h8_way(board, H8_BOARD, rom, rom_n, table, rom_n, (uint32_t)p, answer, 4)) {
             print_refusal(answer);

@@ -226,7 +226,7 @@ static uint32_t spoil_place(const struct bits *b, uint32_t got, uint8_t *ram, si
     if (FAULT == 45 && got == 6)                                                    /* a refused step has gone on */
         b->regs[H8_PC] += 4;
     if (FAULT == 46 && !gives && b->address < 8 && got == 0)                        /* a reader refused in read-only memory */
-        return b->answer[0] = 6, b->answer[1] = b->address, b->answer[3] = 0, memcpy(b->regs, b->was, 40), 6;
+        return memset(b->answer, 0, 4 * H8_STEP_ANSWER), b->answer[1] = b->address, memcpy(b->regs, b->was, 40), b->answer[0] = 6;
     if (FAULT == 47 && gives && got == 0 && b->address & 1 && b->cell) {            /* the address is made even */
         uint8_t now = *b->cell;
         *b->cell = b->cell_was;
@@ -250,7 +250,7 @@ static uint32_t bit_step(const uint32_t *board, size_t board_n, const uint8_t *r
         b.cell = b.f[H8_FORM] == H8_SPOT_REG || b.address - base >= ram_n ? NULL : ram + (b.address - base);
         b.cell_was = b.cell ? *b.cell : 0;
     }
-    uint32_t got = plain_step(board, board_n, rom, rom_n, ram, ram_n, regs, 10, answer, 4);
+    uint32_t got = plain_step(board, board_n, rom, rom_n, ram, ram_n, regs, 10, answer, H8_STEP_ANSWER);
     if (!known || got == 1)
         return got;
     if (got == 0)
@@ -307,8 +307,9 @@ static uint32_t one_step(const uint32_t *board, size_t board_n, const uint8_t *r
 static uint32_t left_step(const uint32_t *board, size_t board_n, const uint8_t *rom, size_t rom_n, uint8_t *ram, size_t ram_n,
                           uint32_t *regs, size_t regs_n, uint32_t *answer, size_t answer_n)
 {
-    uint32_t was = answer_n >= 4 ? answer[2] : 0, got = plain_step(board, board_n, rom, rom_n, ram, ram_n, regs, regs_n, answer, answer_n);
-    if (answer_n < 4)
+    uint32_t was = answer_n >= H8_STEP_ANSWER ? answer[2] : 0;
+    uint32_t got = plain_step(board, board_n, rom, rom_n, ram, ram_n, regs, regs_n, answer, answer_n);
+    if (answer_n < H8_STEP_ANSWER)
         return got;
     uint32_t group = answer[2];
     if (got)
@@ -430,19 +431,100 @@ static void reckon_again(const uint32_t *board, const uint8_t *rom, uint32_t n, 
     }
 }
 
+/* WHAT A STEP TOUCHED, with the faults of it. */
+static uint32_t *entry_of(uint32_t *answer, uint32_t i) { return answer + H8_ACCESSES + H8_ACCESS * i; }
+
+static void set_entry(uint32_t *answer, uint32_t i, uint32_t address, uint32_t bytes, uint32_t write)
+{
+    uint32_t *e = entry_of(answer, i);
+    e[H8_ADDRESS] = address;
+    e[H8_BYTES] = bytes;
+    e[H8_WRITE] = write;
+}
+
+/* Entry i is left out. */
+static void drop_entry(uint32_t *answer, uint32_t i)
+{
+    memmove(entry_of(answer, i), entry_of(answer, i + 1), 4 * H8_ACCESS * (3 - i));
+    set_entry(answer, 3, 0, 0, 0);
+    answer[H8_COUNT]--;
+}
+
+/* Of a completed step: f is the instruction, `was` the registers before. */
+static void spoil_list(const uint32_t *f, const uint32_t *was, uint32_t *answer)
+{
+    uint32_t n = answer[H8_COUNT], *first = entry_of(answer, 0), *second = entry_of(answer, 1), swap[2 * H8_ACCESS];
+    int moves = f[H8_KIND] == H8_MOVE, wide = moves && f[H8_WIDTH] != H8_BYTE, by_er = moves && f[H8_FORM] == H8_AT;
+    (void)swap, (void)second, (void)wide, (void)by_er;
+    if (FAULT == 79 && moves && f[H8_WIDTH] == H8_LONG)                             /* a longword as one entry */
+        drop_entry(answer, 1), first[H8_BYTES] = 4;
+    if (FAULT == 80 && f[H8_KIND] == H8_GIVE && n == 2)                             /* BSET listed once, as a write */
+        drop_entry(answer, 0);
+    if (FAULT == 81 && f[H8_KIND] == H8_JSR && n == 4) {                            /* JSR's writes first */
+        memcpy(swap, first, sizeof swap);
+        memmove(first, entry_of(answer, 2), sizeof swap);
+        memcpy(entry_of(answer, 2), swap, sizeof swap);
+    }
+    if (FAULT == 83 && wide && by_er)                                               /* an odd word address */
+        first[H8_ADDRESS] |= was[f[H8_OTHER]] & 1;
+    if (FAULT == 84 && moves && f[H8_FORM] == H8_STEP && f[H8_WHICH] == H8_STORE)   /* @-ER, not lowered */
+        first[H8_ADDRESS] = was[f[H8_OTHER]] & (f[H8_WIDTH] ? 0xFFFFFE : 0xFFFFFF);
+    if (FAULT == 85 && n == 2 && second[H8_ADDRESS] == 0 && first[H8_ADDRESS] == 0xFFFFFE)      /* not modulo 2^24 */
+        second[H8_ADDRESS] = 0x1000000;
+    if (FAULT == 86 && f[H8_KIND] == H8_RTS)                                        /* RTS has no list, as if its words were fetched */
+        drop_entry(answer, 1), drop_entry(answer, 0);
+    if (FAULT == 87 && f[H8_KIND] == H8_RTS)                                        /* reads told as writes */
+        first[H8_WRITE] = second[H8_WRITE] = 1;
+    if (FAULT == 88 && f[H8_KIND] == H8_BSR)                                        /* a push with its lower word first */
+        first[H8_ADDRESS] ^= second[H8_ADDRESS], second[H8_ADDRESS] ^= first[H8_ADDRESS], first[H8_ADDRESS] ^= second[H8_ADDRESS];
+    if (FAULT == 91 && n < 4)                                                       /* the code's own place is listed too */
+        set_entry(answer, n, was[H8_PC], 2, 0), answer[H8_COUNT]++;
+    if (FAULT == 92 && n && answer[3] > f[H8_STATES])                               /* the states leave a port's last entry out */
+        answer[3]--;
+    if (FAULT == 93 && f[H8_KIND] == H8_TAKE && n)                                  /* a bit's byte told as a word */
+        first[H8_BYTES] = 2;
+}
+
+static uint32_t listed_step(const uint32_t *board, size_t board_n, const uint8_t *rom, size_t rom_n, uint8_t *ram, size_t ram_n,
+                            uint32_t *regs, size_t regs_n, uint32_t *answer, size_t answer_n)
+{
+    uint32_t was[10] = {0}, full[H8_STEP_ANSWER], kept[H8_STEP_ANSWER] = {0};
+    struct decoded d;
+    if (answer_n < (FAULT == 90 ? 4 : H8_STEP_ANSWER))                              /* 90: an answer of four numbers is enough */
+        return 13;
+    if (regs_n >= 10)
+        memcpy(was, regs, sizeof was);
+    memcpy(kept, answer, 4 * (answer_n < H8_STEP_ANSWER ? answer_n : H8_STEP_ANSWER));
+    uint32_t got = plain_step(board, board_n, rom, rom_n, ram, ram_n, regs, regs_n, full, H8_STEP_ANSWER);
+    start();
+    int known = got != 1 && got != 13 && was[8] < rom_n && decode(rom + was[8], rom_n - was[8], &d) == 0;
+    if (known && got == 0)
+        spoil_list(d.fields, was, full);
+    if (FAULT == 82 && known && got == 6 && d.fields[H8_KIND] == H8_GIVE)           /* a list after a refusal */
+        set_entry(full, 0, full[1], 1, 0), full[H8_COUNT] = 1;
+    if (FAULT == 89)                                                                /* entries that are not used stay */
+        memcpy(entry_of(full, full[H8_COUNT]), entry_of(kept, full[H8_COUNT]), 4 * H8_ACCESS * (4 - full[H8_COUNT]));
+    if (FAULT == 94 && answer_n > H8_STEP_ANSWER)                                   /* an eighteenth number is written */
+        answer[H8_STEP_ANSWER] = 0;
+    memcpy(answer, full, 4 * (answer_n < H8_STEP_ANSWER ? answer_n : H8_STEP_ANSWER));
+    return got;
+}
+
 uint32_t h8_step(const uint32_t *board, size_t board_n, const uint8_t *rom, size_t rom_n, uint8_t *ram, size_t ram_n,
                  uint32_t *regs, size_t regs_n, uint32_t *answer, size_t answer_n)
 {
+    if (FAULT >= 79 && FAULT <= 94)
+        return listed_step(board, board_n, rom, rom_n, ram, ram_n, regs, regs_n, answer, answer_n);
     if (FAULT >= 63)
         return port_step(board, board_n, rom, rom_n, ram, ram_n, regs, regs_n, answer, answer_n);
     if (FAULT >= 49)
         return left_step(board, board_n, rom, rom_n, ram, ram_n, regs, regs_n, answer, answer_n);
-    if (FAULT >= 28 && regs_n >= 10 && answer_n >= 4)
+    if (FAULT >= 28 && regs_n >= 10 && answer_n >= H8_STEP_ANSWER)
         return bit_step(board, board_n, rom, rom_n, ram, ram_n, regs, answer);
     if ((FAULT >= 6 && FAULT <= 15) || (FAULT >= 25 && FAULT <= 27))
         return one_step(board, board_n, rom, rom_n, ram, ram_n, regs, regs_n, answer, answer_n);
-    if (FAULT == 16 && regs_n == 10 && answer_n >= 4 && rom_n == 524288)            /* the longest memory refused */
-        return answer[0] = 1, answer[1] = answer[2] = answer[3] = 0, 1;
+    if (FAULT == 16 && regs_n == 10 && answer_n >= H8_STEP_ANSWER && rom_n == 524288)           /* the longest memory refused */
+        return memset(answer, 0, 4 * H8_STEP_ANSWER), answer[0] = 1;
     if (FAULT == 17 && regs_n > 10)                                                 /* writes past the registers */
         regs[10] = 0;
     return plain_step(board, board_n, rom, rom_n, ram, ram_n, regs, regs_n, answer, answer_n);
@@ -476,6 +558,105 @@ uint32_t h8_run(const uint32_t *board, size_t board_n, const uint8_t *rom, size_
     return answer_n < 6 ? got : wide_group(answer, got, group);
 }
 
+/* THE FIGURE WITH CALLS once more, slowly, with the faults of it: every place by levels. */
+enum { PLACES = H8_ROM_MAX / 2, LEVELS_MOST = 8, TOLD_MOST = 1000000000 };
+struct flow { uint32_t number, group, states, next, to, callee; uint8_t onward, jumps, calls; };
+struct reckoned { uint64_t total; uint32_t low; };
+
+static struct flow flow_at(const uint32_t *board, const uint8_t *rom, uint32_t n, uint32_t p)
+{
+    struct flow w = {0};
+    struct decoded d;
+    w.number = (uint32_t)decode(rom + p, n - p, &d);
+    if (w.number)
+        return w.group = (uint32_t)d.group, w;
+    const uint32_t *f = d.fields;
+    uint32_t kind = f[H8_KIND], direct = kind == H8_JMP || kind == H8_JSR;
+    uint32_t jump = f[H8_FORM] == H8_NEAR ? (uint32_t)(int8_t)f[H8_VALUE] : (uint32_t)(int16_t)f[H8_VALUE];
+    uint32_t dear = board[H8_AREA_BASE] < board[H8_AREA_END] ? 2 * more_of_word(board) : 0;
+    w.next = p + f[H8_LENGTH];
+    w.to = w.callee = (direct ? f[H8_VALUE] : w.next + jump) & 0xFFFFFE;
+    w.calls = kind == H8_BSR || kind == H8_JSR;
+    w.states = f[H8_STATES] + (w.calls ? dear : more_on_path(board, f));
+    w.onward = kind != H8_RTS && kind != H8_JMP && !(kind == H8_BCC && f[H8_WHICH] == 0);
+    w.jumps = kind == H8_JMP || (kind == H8_BCC && f[H8_WHICH] != 1);
+    if (direct && f[H8_FORM] != H8_DIRECT)
+        w.number = 9;
+    else if (w.jumps && w.to <= p)
+        w.number = 10;
+    else if (FAULT == 100 && w.calls && w.callee <= p)                              /* calls down are refused */
+        w.number = 10;
+    return w;
+}
+
+static struct reckoned reckoned_at(const struct reckoned *rows, uint32_t n, uint32_t p)
+{
+    return p < n ? rows[p / 2] : (struct reckoned){0, p};
+}
+
+static struct reckoned reckon_place(const struct flow *w, uint32_t n, uint32_t p, uint32_t level, const struct reckoned *rows, const struct reckoned *less)
+{
+    struct reckoned r = {0, H8_NONE}, x;
+    if (w->number)
+        return r.low = p, r;
+    if (w->calls && level == 0)                                                     /* 103: 16 at the routine, not at the call */
+        return r.low = FAULT == 103 ? w->callee : p, r;
+    if (w->onward && !(FAULT == 97 && w->calls))                                    /* 97: a path ends at a call */
+        r = reckoned_at(rows, n, w->next);
+    if (w->jumps) {
+        x = reckoned_at(rows, n, w->to);
+        r.total = x.total > r.total ? x.total : r.total;
+        r.low = x.low < r.low ? x.low : r.low;
+    }
+    if (w->calls) {
+        x = reckoned_at(less, n, w->callee);
+        if (FAULT == 112 && w->callee >= n)                                         /* a call outside is refused at its own place */
+            x.low = p;
+        if (FAULT != 96)                                                            /* the routine's cost is left out */
+            r.total += x.total;
+        if (FAULT != 98)                                                            /* its forbidden place is forgotten */
+            r.low = x.low < r.low ? x.low : r.low;
+    }
+    r.total += w->states;
+    if (FAULT == 106)                                                               /* totals of 32 bits */
+        r.total = (uint32_t)r.total;
+    else if (r.total > (uint64_t)TOLD_MOST + 1)
+        r.total = (uint64_t)TOLD_MOST + 1;
+    return r;
+}
+
+static int over(struct reckoned r) { return r.total > TOLD_MOST - (FAULT == 101); }  /* 101: from 1,000,000,000 on */
+
+static uint32_t reckon_calls(const uint32_t *board, const uint8_t *rom, uint32_t n, uint32_t entry, uint64_t *table, uint64_t *answer)
+{
+    static struct flow flows[PLACES];
+    static struct reckoned rows[2][PLACES];
+    uint32_t levels = FAULT == 95 ? LEVELS_MOST - 1 : LEVELS_MOST;                  /* 95: seven levels */
+    start();
+    for (uint32_t p = 0; p < n; p += 2)
+        flows[p / 2] = flow_at(board, rom, n, p);
+    for (uint32_t level = 0; level <= levels; level++)
+        for (uint32_t p = n; p > 0; p -= 2)
+            rows[level % 2][p / 2 - 1] = reckon_place(&flows[p / 2 - 1], n, p - 2, level, rows[level % 2], rows[1 - level % 2]);
+    struct reckoned own = rows[levels % 2][entry / 2];
+    uint32_t which = FAULT == 104 ? 1 - levels % 2 : levels % 2;                    /* 104: the rows have one level less */
+    for (uint32_t p = 0; p < n; p += 2) {
+        struct reckoned r = rows[which][p / 2];
+        int long_one = over(r) && (r.low == H8_NONE || FAULT == 102);               /* 102: 22 though something forbidden is reached */
+        table[p] = r.low != H8_NONE || long_one ? 0 : r.total;
+        table[p + 1] = long_one && FAULT != 99 ? p : r.low;                         /* 99: without its own address */
+    }
+    memset(answer, 0, 32);
+    if (over(own) && (own.low == H8_NONE || FAULT == 102))
+        return answer[1] = entry, (uint32_t)(answer[0] = 22);
+    if (own.low == H8_NONE)
+        return answer[3] = own.total, 0;
+    answer[1] = own.low;
+    answer[0] = own.low >= n ? 2 : flows[own.low / 2].number ? flows[own.low / 2].number : 16;
+    answer[2] = own.low >= n ? 0 : flows[own.low / 2].group;
+    return (uint32_t)answer[0];
+}
+
 uint32_t h8_figure(const uint32_t *board, size_t board_n, const uint8_t *rom, size_t rom_n, uint32_t entry,
                    uint64_t *table, size_t table_n, uint64_t *answer, size_t answer_n)
 {
@@ -484,12 +665,18 @@ uint32_t h8_figure(const uint32_t *board, size_t board_n, const uint8_t *rom, si
         return answer[0] = 8, answer[1] = entry, answer[2] = answer[3] = 0, 8;
     if (FAULT == 21 && answer_n >= 4 && table_n < rom_n && rom_n % 2 == 0)          /* 13 before 8 */
         return answer[0] = 13, answer[1] = rom_n, answer[2] = answer[3] = 0, 13;
-    uint64_t group = answer_n >= 4 ? answer[2] : 0, was = table_n > 3 ? table[3] : 0;
+    uint64_t group = answer_n >= 4 ? answer[2] : 0, was = table_n > 3 ? table[3] : 0, first = table_n ? table[0] : 0;
     uint32_t got = plain_figure(board, board_n, rom, rom_n, entry, table, table_n, answer, answer_n);
     if ((FAULT == 66 || FAULT == 67) && got != 1 && got != 8 && got != 13) {
         reckon_again(board, rom, (uint32_t)rom_n, table);
         answer[3] = got ? 0 : table[entry];
     }
+    if (FAULT >= 95 && FAULT <= 112 && answer_n >= 4 && got != 1 && got != 8 && got != 13)
+        got = reckon_calls(board, rom, (uint32_t)rom_n, entry, table, answer);
+    if (FAULT == 105 && got == 16)                                                  /* 16 told as 9 */
+        got = 9, answer[0] = 9;
+    if (FAULT == 107 && got == 16)                                                  /* the table is not filled */
+        table[0] = first;
     if (FAULT == 22 && got == 10)                                                   /* 10 told as 9 */
         got = 9, answer[0] = 9;
     if (FAULT == 23 && got == 0 && rom_n > 8 && rom[entry] >> 4 == 4 && entry + 4 < rom_n && table[entry + 2] > 20)
@@ -512,5 +699,360 @@ uint32_t h8_way(const uint32_t *board, size_t board_n, const uint8_t *rom, size_
     if (FAULT == 24 && got == 0 && answer_n >= 4 && answer[3] != H8_NONE && rom[place] >> 4 == 4 && rom[place] & 14
         && answer[3] != place + 2)
         answer[3] = place + 2;                                                      /* always straight on */
+    if (FAULT == 108 && got == 0 && answer_n >= 4 && rom[place] == 0x55)            /* into the routine that is called */
+        answer[3] = (place + 2 + (uint32_t)(int8_t)rom[place + 1]) & 0xFFFFFE;
+    if (FAULT == 109 && got == 22)                                                  /* told as a call too deep */
+        got = 16, answer[0] = 16;
     return answer_n < 4 ? got : wide_group(answer, got, group);
+}
+
+/* A RUN OF A ROUTINE, over plain C's step, with the faults of it. */
+struct going {
+    const uint32_t *board;
+    size_t board_n;
+    const uint8_t *rom;
+    size_t rom_n;
+    uint8_t *ram;
+    size_t ram_n;
+    uint32_t *regs, kept[H8_KEPT_MAX + 1], count, told[H8_STEP_ANSWER];
+    uint64_t steps, states;
+};
+
+static uint32_t try_step(struct going *g, uint8_t *ram, uint32_t *regs)
+{
+    return plain_step(g->board, g->board_n, g->rom, g->rom_n, ram, g->ram_n, regs, 10, g->told, H8_STEP_ANSWER);
+}
+
+/* One step: -1, or the ending. */
+static int go_on(struct going *g)
+{
+    static uint8_t ram[H8_RAM_MAX];
+    uint32_t pc = g->regs[H8_PC], after[10], b0 = pc < g->rom_n ? g->rom[pc] : 0;
+    memcpy(after, g->regs, sizeof after);
+    memcpy(ram, g->ram, g->ram_n);
+    uint32_t got = try_step(g, ram, after);
+    int known = got == 0 || got == 5 || got == 6, calls = known && (b0 == 0x55 || (b0 >= 0x5C && b0 <= 0x5F)), returns = known && b0 == 0x54;
+    uint32_t most = FAULT == 113 ? H8_KEPT_MAX + 1 : H8_KEPT_MAX;                   /* 113: the ninth is executed */
+    if (FAULT == 115 && got == 0 && b0 == 0x01 && g->rom[pc + 2] == 0x6D && g->rom[pc + 3] >> 4 == 0xF)     /* PUSH.L is kept */
+        calls = 1;
+    if (FAULT == 116 && b0 == 0x5D)                                                 /* JSR @ERn is not kept */
+        calls = 0;
+    if (FAULT == 117 && returns && got == 5 && g->count)                            /* elsewhere before 5 */
+        return H8_ELSEWHERE;
+    if (FAULT == 118 && calls && got == 6 && g->count == most)                      /* ninth before 6 */
+        return H8_NINTH;
+    if (FAULT == 126 && calls && got == 6 && g->count < most)                       /* a refused call is kept */
+        g->kept[g->count++] = pc + 2;
+    if (got)
+        return H8_REFUSED;
+    if (calls && g->count == most)
+        return FAULT == 128 ? (try_step(g, g->ram, after), H8_NINTH) : H8_NINTH;    /* 128: what it pushes is written */
+    if (returns && g->count && after[H8_PC] != g->kept[g->count - 1]) {
+        if (FAULT == 114)                                                           /* a return elsewhere is made and counted */
+            try_step(g, g->ram, g->regs), g->steps++, g->states += g->told[3];
+        return H8_ELSEWHERE;
+    }
+    if (FAULT == 124 && returns && g->count && ram[(g->regs[7] & 0xFFFFFE) - g->board[H8_BASE]])    /* the first byte is looked at */
+        return H8_ELSEWHERE;
+    try_step(g, g->ram, g->regs);
+    g->steps++;
+    g->states += g->told[3];
+    if (calls)
+        g->kept[g->count++] = pc + (b0 == 0x5C || b0 == 0x5E ? 4 : 2);
+    if (returns && g->count == 0 && FAULT == 121)                                   /* the last return is not counted */
+        g->steps--, g->states -= g->told[3];
+    if (returns && g->count == 0)                                                   /* 120: it goes on */
+        return FAULT == 120 ? -1 : H8_RETURNED;
+    g->count -= (uint32_t)returns;
+    return -1;
+}
+
+uint32_t h8_routine(const uint32_t *board, size_t board_n, const uint8_t *rom, size_t rom_n, uint8_t *ram, size_t ram_n,
+                    uint32_t *regs, size_t regs_n, uint32_t stop, uint32_t budget, uint64_t *answer, size_t answer_n)
+{
+    struct going g = {board, board_n, rom, rom_n, ram, ram_n, regs, {0}, 0, {0}, 0, 0};
+    uint64_t none[6];
+    int ending = -1;
+    if (answer_n < H8_ROUTINE_ANSWER)
+        return 13;
+    memset(answer, 0, 8 * H8_ROUTINE_ANSWER);
+    answer[5] = H8_REFUSED;
+    if (regs_n < 10)
+        return answer[1] = 10, (uint32_t)(answer[0] = 13);
+    uint32_t right = plain_run(board, board_n, rom, rom_n, ram, ram_n, regs, regs_n, 0, 0, none, 6) == 0;
+    if (budget > H8_BUDGET_MAX && !(FAULT == 125 && !right))                        /* 125: 1 before 12 */
+        return (uint32_t)(answer[0] = 12);
+    if (!right)
+        return (uint32_t)(answer[0] = 1);
+    while (ending < 0)
+        if (FAULT == 122)                                                           /* the budget before the stop address */
+            ending = g.steps == budget ? H8_SPENT : regs[H8_PC] == stop ? H8_STOPPED : go_on(&g);
+        else
+            ending = regs[H8_PC] == stop ? H8_STOPPED : g.steps == budget ? H8_SPENT : go_on(&g);
+    answer[5] = (uint64_t)ending;
+    if (ending == H8_REFUSED)
+        for (int i = 0; i < 3; i++)
+            answer[i] = g.told[i];
+    answer[3] = g.steps;
+    answer[4] = g.states;
+    answer[6] = FAULT == 127 && answer[0] ? 0 : g.count;                            /* 127: a refusal keeps none */
+    for (uint32_t i = 0; i < (FAULT == 123 ? H8_KEPT_MAX : g.count) && i < H8_KEPT_MAX; i++)    /* 123: those taken off stand there still */
+        answer[7 + i] = FAULT == 119 ? g.kept[g.count - 1 - i] : g.kept[i];         /* 119: the last one first */
+    return (uint32_t)answer[0];
+}
+
+/* A REPLAY, byte by byte, over plain C's step, with the faults of it. */
+enum { AT_VERSION, AT_RECORDS, TOLD, CLOSED, REPLAY_NUMBERS = 7, RECORD_BYTES = 11 };
+struct player {
+    const uint32_t *board;
+    size_t board_n;
+    const uint8_t *rom;
+    size_t rom_n;
+    uint8_t *ram;
+    size_t ram_n;
+    uint32_t regs[10], stage, count;
+    uint8_t part[RECORD_BYTES];
+    uint64_t steps, states, number, place, group, report, field;
+};
+
+static void tell(struct player *p, uint64_t number, uint64_t place, uint64_t report, uint64_t field)
+{
+    p->stage = TOLD;
+    p->number = number;
+    p->place = place;
+    p->report = report;
+    p->field = field;
+}
+
+static uint64_t record_begins(const struct player *p) { return 1 + RECORD_BYTES * p->steps; }
+
+static void player_step(struct player *p)
+{
+    uint32_t told[H8_STEP_ANSWER];
+    if (plain_step(p->board, p->board_n, p->rom, p->rom_n, p->ram, p->ram_n, p->regs, 10, told, H8_STEP_ANSWER)) {
+        p->group = FAULT == 145 ? 0 : told[2];                                      /* 145: the group is not told */
+        p->steps += FAULT == 138;                                                   /* 138: its record is counted */
+        tell(p, told[0], told[1], H8_HALTED, 0);
+        return;
+    }
+    p->steps++;
+    p->states += told[3];
+    p->count = 0;
+}
+
+static void whole_record(struct player *p)
+{
+    const uint8_t *r = p->part;
+    uint32_t pc = (uint32_t)r[2] << 24 | (uint32_t)r[3] << 16 | (uint32_t)r[4] << 8 | r[5], field = 0;
+    uint32_t states = (uint32_t)r[7] << 24 | (uint32_t)r[8] << 16 | (uint32_t)r[9] << 8 | r[10];
+    if (FAULT == 130 && p->steps == 0)                                              /* a step before the comparison */
+        player_step(p);
+    if (pc != p->regs[H8_PC] && !(FAULT == 139 && (pc & 0xFFFFFF) == p->regs[H8_PC]))           /* 139: PC in 24 bits */
+        field = H8_FIELD_PC;
+    else if (FAULT == 129 && states != p->states)                                   /* the states before the condition byte */
+        field = H8_FIELD_STATES;
+    else if (r[6] != p->regs[H8_CONDITION])
+        field = H8_FIELD_CONDITION;
+    else if (states != p->states && !(FAULT == 144 && (uint16_t)states == (uint16_t)p->states))  /* 144: states in 16 bits */
+        field = H8_FIELD_STATES;
+    if (field && FAULT == 136)                                                      /* a difference takes its step */
+        player_step(p);
+    if (field)
+        tell(p, 0, 0, H8_DIFFERS, field);
+    else
+        player_step(p);
+}
+
+static void take_byte(struct player *p, uint8_t x)
+{
+    if (p->stage == AT_VERSION) {
+        p->stage = AT_RECORDS;
+        if (x != 1)
+            tell(p, 17, 0, H8_HALTED, 0);
+        return;
+    }
+    uint32_t most = H8_BUDGET_MAX + (FAULT == 142), look = FAULT == 132 ? RECORD_BYTES - 1 : 0; /* 142: a record too many; 132: at a whole one */
+    if (p->count == look && p->steps == most) {
+        tell(p, 12, FAULT == 137 ? record_begins(p) : 0, H8_HALTED, 0);             /* 137: its place is the record */
+        return;
+    }
+    p->part[p->count++] = x;
+    int wrong = p->part[0] != 0 || p->part[1] != RECORD_BYTES - 2;
+    if (FAULT == 143 && p->count == 1 && x)                                         /* half a length is enough */
+        tell(p, 18, record_begins(p), H8_HALTED, 0);
+    else if (p->count == (FAULT == 131 ? RECORD_BYTES : 2) && wrong)                /* 131: 18 after eleven bytes */
+        tell(p, 18, record_begins(p) + (FAULT == 133 ? RECORD_BYTES : 0), H8_HALTED, 0);        /* 133: a record late */
+    else if (p->count == RECORD_BYTES)
+        whole_record(p);
+}
+
+/* The end: what was told, agreed, or 19. */
+static void player_end(struct player *p)
+{
+    if (p->stage == TOLD)
+        return;
+    if (p->stage == AT_VERSION)
+        FAULT == 134 ? tell(p, 0, 0, H8_AGREED, 0) : tell(p, 19, 0, H8_HALTED, 0);  /* 134: an empty file agrees */
+    else if (p->count)
+        tell(p, 19, record_begins(p) + (FAULT == 135 ? p->count : 0), H8_HALTED, 0);            /* 135: where the file ends */
+    else
+        tell(p, 0, 0, H8_AGREED, 0);
+}
+
+static uint32_t player_answer(const struct player *p, uint64_t *answer)
+{
+    const uint64_t numbers[REPLAY_NUMBERS] = {p->number, p->place, p->group, p->steps, p->states, p->report, p->field};
+    memcpy(answer, numbers, sizeof numbers);
+    return (uint32_t)p->number;
+}
+
+static struct player player_of(const uint32_t *board, size_t board_n, const uint8_t *rom, size_t rom_n, uint8_t *ram, size_t ram_n,
+                               const uint32_t *regs)
+{
+    struct player p = {.board = board, .board_n = board_n, .rom = rom, .rom_n = rom_n, .ram = ram, .ram_n = ram_n};
+    uint64_t none[6];
+    memcpy(p.regs, regs, sizeof p.regs);
+    if (plain_run(board, board_n, rom, rom_n, ram, ram_n, p.regs, 10, 0, 0, none, 6))
+        tell(&p, 1, 0, H8_HALTED, 0);
+    return p;
+}
+
+uint32_t h8_replay(const uint32_t *board, size_t board_n, const uint8_t *rom, size_t rom_n, uint8_t *ram, size_t ram_n,
+                   uint32_t *regs, size_t regs_n, const uint8_t *file, size_t file_n, uint64_t *answer, size_t answer_n)
+{
+    if (answer_n < REPLAY_NUMBERS)
+        return 13;
+    memset(answer, 0, 8 * REPLAY_NUMBERS);
+    answer[5] = H8_HALTED;
+    if (regs_n < 10)
+        return answer[1] = 10, (uint32_t)(answer[0] = 13);
+    if (FAULT == 140 && file_n && file[0] != 1)                                     /* the version before the board */
+        return (uint32_t)(answer[0] = 17);
+    struct player p = player_of(board, board_n, rom, rom_n, ram, ram_n, regs);
+    for (size_t i = 0; i < file_n && p.stage != TOLD; i++)
+        take_byte(&p, file[i]);
+    player_end(&p);
+    if (!(FAULT == 141 && p.report == H8_DIFFERS))                                  /* 141: registers stay where a record differs */
+        memcpy(regs, p.regs, sizeof p.regs);
+    return player_answer(&p, answer);
+}
+
+/* A REPLAY IN CUTS: the same, carried in the lent array. */
+enum { N_STEPS = 10, N_STATES, N_STATES_HIGH, N_STAGE, N_COUNT, N_PART, N_NUMBER = N_PART + 3, N_PLACE, N_GROUP, N_REPORT, N_FIELD };
+
+static void put_away(const struct player *p, uint32_t *replay)
+{
+    memcpy(replay, p->regs, sizeof p->regs);
+    replay[N_STEPS] = (uint32_t)p->steps;
+    replay[N_STATES] = (uint32_t)p->states;
+    replay[N_STATES_HIGH] = (uint32_t)(p->states >> 32);
+    replay[N_STAGE] = p->stage;
+    replay[N_COUNT] = p->count;
+    memcpy(replay + N_PART, p->part, RECORD_BYTES);
+    replay[N_NUMBER] = (uint32_t)p->number;
+    replay[N_PLACE] = (uint32_t)p->place;
+    replay[N_GROUP] = (uint32_t)p->group;
+    replay[N_REPORT] = (uint32_t)p->report;
+    replay[N_FIELD] = (uint32_t)p->field;
+}
+
+/* Any numbers are taken, by remainders. */
+static void take_out(struct player *p, const uint32_t *replay)
+{
+    memcpy(p->regs, replay, sizeof p->regs);
+    p->steps = replay[N_STEPS] % (H8_BUDGET_MAX + 1);
+    p->states = replay[N_STATES] | (uint64_t)replay[N_STATES_HIGH] << 32;
+    p->stage = replay[N_STAGE] % (CLOSED + 1);
+    p->count = replay[N_COUNT] % RECORD_BYTES;
+    memcpy(p->part, replay + N_PART, RECORD_BYTES);
+    p->number = replay[N_NUMBER] % 23;
+    p->place = replay[N_PLACE];
+    p->group = replay[N_GROUP];
+    p->report = p->number ? H8_HALTED : replay[N_REPORT] % H8_HALTED;
+    p->field = p->report == H8_DIFFERS ? replay[N_FIELD] % 4 : 0;
+}
+
+static uint32_t lent_short(size_t replay_n, uint64_t *answer)
+{
+    memset(answer, 0, 8 * REPLAY_NUMBERS);
+    answer[0] = replay_n < H8_REPLAY ? 13 : 0;
+    answer[1] = replay_n < H8_REPLAY ? H8_REPLAY : 0;
+    answer[5] = H8_HALTED;
+    return (uint32_t)answer[0];
+}
+
+/* 20, with nothing changed. */
+static uint32_t ended(const struct player *p, uint64_t *answer)
+{
+    struct player told = *p;
+    told.group = 0;
+    tell(&told, 20, FAULT == 159 ? record_begins(p) : 0, H8_HALTED, 0);             /* 159: its place is a record's */
+    return player_answer(&told, answer);
+}
+
+uint32_t h8_replay_begin(const uint32_t *board, size_t board_n, const uint8_t *rom, size_t rom_n, const uint8_t *ram, size_t ram_n,
+                         const uint32_t *regs, size_t regs_n, uint32_t *replay, size_t replay_n, uint64_t *answer, size_t answer_n)
+{
+    if (answer_n < REPLAY_NUMBERS)
+        return 13;
+    if (lent_short(replay_n, answer))
+        return 13;
+    if (regs_n < 10)
+        return answer[1] = 10, (uint32_t)(answer[0] = 13);
+    struct player p = player_of(board, board_n, rom, rom_n, (uint8_t *)(uintptr_t)ram, ram_n, regs);
+    if (p.stage != TOLD)
+        p.report = H8_MORE;
+    uint32_t got = player_answer(&p, answer);
+    if (FAULT == 156)                                                               /* a wrong start is not carried on */
+        p.stage = AT_VERSION;
+    put_away(&p, replay);
+    return got;
+}
+
+uint32_t h8_replay_take(const uint32_t *board, size_t board_n, const uint8_t *rom, size_t rom_n, uint8_t *ram, size_t ram_n,
+                        uint32_t *replay, size_t replay_n, const uint8_t *bytes, size_t n, uint64_t *answer, size_t answer_n)
+{
+    struct player p = {.board = board, .board_n = board_n, .rom = rom, .rom_n = rom_n, .ram = ram, .ram_n = ram_n};
+    if (answer_n < REPLAY_NUMBERS)
+        return 13;
+    if (lent_short(replay_n, answer))
+        return 13;
+    take_out(&p, replay);
+    if (FAULT == 150 && p.stage == CLOSED && n == 0)                                /* an empty delivery after the end */
+        return p.number = p.place = 0, p.report = H8_MORE, player_answer(&p, answer);
+    if (FAULT == 153 && p.stage == TOLD && p.report == H8_DIFFERS)                  /* it goes on after a difference */
+        p.stage = AT_RECORDS, p.count = 0;
+    if (FAULT == 157 && p.stage == TOLD)                                            /* too late, and it closes the replay */
+        replay[N_STAGE] = CLOSED;
+    if (p.stage == TOLD || p.stage == CLOSED)
+        return ended(&p, answer);
+    if (FAULT == 154)                                                               /* what was read of a record is lost */
+        p.count = 0;
+    for (size_t i = 0; i < n && p.stage != TOLD; i++)
+        take_byte(&p, bytes[i]);
+    if (FAULT == 152 && p.stage == AT_RECORDS && p.count)                           /* 19 at a delivery */
+        player_end(&p);
+    if (p.stage != TOLD)
+        p.number = p.place = p.field = 0, p.report = FAULT == 160 ? H8_AGREED : H8_MORE;        /* 160: agreed before the end */
+    put_away(&p, replay);
+    return player_answer(&p, answer);
+}
+
+uint32_t h8_replay_end(uint32_t *replay, size_t replay_n, uint64_t *answer, size_t answer_n)
+{
+    struct player p = {0};
+    if (answer_n < REPLAY_NUMBERS)
+        return 13;
+    if (lent_short(replay_n, answer))
+        return 13;
+    take_out(&p, replay);
+    if (p.stage == CLOSED && FAULT != 151)                                          /* 151: a second end repeats */
+        return ended(&p, answer);
+    if (FAULT == 155 && p.stage == TOLD)                                            /* no end after what was told */
+        return ended(&p, answer);
+    if (p.stage != CLOSED)
+        player_end(&p);
+    p.stage = CLOSED;
+    put_away(&p, replay);
+    return player_answer(&p, answer);
 }

@@ -1,9 +1,18 @@
 /* h8.h: the H8/300H processor in proved software, for programs in C.
 
-   Six functions over numbers and lent arrays. An array is lent as a pointer and its length in elements. The library keeps
+   Eleven functions over numbers and lent arrays. An array is lent as a pointer and its length in elements. The library keeps
    nothing between calls, allocates nothing, prints nothing and calls nothing.
 
    WHAT CHANGED, the newest first. Programs that it concerns have to be compiled again with this header.
+   - New: h8_replay_begin, h8_replay_take and h8_replay_end, which replay a recording that arrives in cuts, with refusal 20.
+     They concern no other function.
+   - New: h8_replay, which replays a run against a recording, with refusals 17, 18 and 19. It concerns no other function.
+   - h8_figure and h8_way follow calls: BSR and JSR @aa:24 are no longer refused by 9. New are the refusals 16 and 22, and
+     h8_routine, a run that returns where the routine does. It concerns programs that look for 9, that take a table's row for
+     refused at its own place, that follow h8_way (a call's states are its own and its routine's), and that rely on a bound of
+     rom_n / 2 steps, which is gone.
+   - A step tells what it touched: its answer has H8_STEP_ANSWER numbers, thirteen behind the four that it had. It concerns
+     programs that call h8_step; one that lends a shorter `answer` is refused by 13.
    - The board carries a port area, where a data access takes more states; THE BOARD below describes it. So the board is lent,
      as four numbers: h8_step and h8_run take it in place of `base`, h8_figure and h8_way before `rom`. It concerns every
      program that calls one of these four. Without ports the board is { base, base, base, 8 }, and its states and figures are
@@ -31,13 +40,19 @@
       6   data write outside working memory                                          the first failing address
       7   DAA or DAS outside the rows of the manual                                  the instruction
       8   entry odd or outside read-only memory                                      the entry
-      9   the listing can't be followed here: a call, JMP @ERn or JMP @@aa:8         that place
+      9   the listing can't be followed here: JSR or JMP by @ERn or @@aa:8           that place
      10   a way from here goes to a target that is not above it                      that place
      11   not an instruction: a field out of range                                   0
      12   budget over 1,000,000                                                      0
      13   a lent array is too short                                                  the length it needs
      14   a zero divisor, or a quotient that does not fit                            the instruction
      15   a code of the manual that this set leaves out, or its beginning            the address
+     16   a call at the ninth level of calls; a routine that calls itself meets it   that call
+     17   the version byte of a recording is not 1                                   0
+     18   the length of a record is not 9                                            the byte where the record begins
+     19   a record is unfinished, or the recording is empty                          the byte where it begins
+     20   the replay has ended: a delivery or an end too late                         0
+     22   a routine whose figure would be above 1,000,000,000                        the entry
 
    Each function also writes this number, its place and its group to the first three numbers of the lent array `answer`. The
    group is 0 with every number but 15. There it is the group of the code that is left out: 3 MOV with displacement d:24,
@@ -48,8 +63,8 @@
    written. A `regs` or a `fields` to be filled that is too short is looked for next. After these two each function's own
    order follows.
 
-   On a refusal nothing lent changes but `answer`, with two exceptions: h8_run keeps the steps it completed, and h8_figure
-   fills its table on 2, 3, 4, 9, 10 and 15.
+   On a refusal nothing lent changes but `answer`, with these exceptions: h8_run, h8_routine and h8_replay keep the steps they
+   completed, and h8_figure fills its table on 2, 3, 4, 9, 10, 15, 16 and 22.
 
    AN EXAMPLE: how many states a routine at 0x100 can take, on boards with ports from 0xFFFF20 on behind a bus of 8 bits.
 
@@ -181,10 +196,18 @@ uint32_t h8_decode(const uint8_t *bytes, size_t n, uint32_t *fields, size_t fiel
 uint32_t h8_encode(const uint32_t *fields, size_t fields_n, uint8_t *out, size_t out_n, uint32_t *answer, size_t answer_n);
 
 /* One instruction, at PC.
-   answer, 4 numbers: [number, place, group, states].
-   Looks for: 13 (answer_n below 4: nothing written), 13 (regs_n below 10: place 10), 1, 2, 4, 15 or 3, 5, 6, 7, 14.
-   0: `regs` and `ram` are as the instruction leaves them, `states` is what it took, each access at the cost of its place.
-   Else both are as they were, states 0. */
+   answer, 17 numbers: [number, place, group, states, count, then three for each of four accesses: address, bytes, write].
+   The first `count` accesses are those to data that the instruction made, in the order made; the numbers of the others are 0.
+   The address is below 2^24, and even where bytes is 2; bytes is 1 or 2; write is 0 for a read and 1 for a write. A longword
+   is two accesses, the upper word first. Fetches are not among them. So JSR @@aa:8 has two reads and then two writes, RTS two
+   reads, BSET in memory a read and then a write of the same byte, and @-ERn is at the lowered address.
+   Looks for: 13 (answer_n below 17: nothing written), 13 (regs_n below 10: place 10), 1, 2, 4, 15 or 3, 5, 6, 7, 14.
+   0: `regs` and `ram` are as the instruction leaves them; `states` is what it took: two for each word of code that it
+   fetched, its internal states, and each access of the list at the cost of its place. No other byte of `ram` has changed
+   than those that a write of the list reaches.
+   Else both are as they were, states 0 and no accesses. */
+enum h8_step_answer { H8_COUNT = 4, H8_ACCESSES = 5, H8_STEP_ANSWER = 17 };
+enum h8_access { H8_ADDRESS = 0, H8_BYTES = 1, H8_WRITE = 2, H8_ACCESS = 3 };  /* access i is at H8_ACCESSES + H8_ACCESS * i */
 uint32_t h8_step(const uint32_t *board, size_t board_n, const uint8_t *rom, size_t rom_n, uint8_t *ram, size_t ram_n,
                  uint32_t *regs, size_t regs_n, uint32_t *answer, size_t answer_n);
 
@@ -194,35 +217,107 @@ uint32_t h8_step(const uint32_t *board, size_t board_n, const uint8_t *rom, size
    H8_REFUSED.
    Looks for: 13 (answer_n below 6: nothing written), 13 (regs_n below 10: place 10), 12, 1; in these four cases no step is
    done. Then the refusals of a step. `regs` and `ram` are as the completed steps leave them, whatever the ending. */
-enum h8_ending { H8_STOPPED, H8_SPENT, H8_REFUSED };
+enum h8_ending { H8_STOPPED, H8_SPENT, H8_REFUSED, H8_RETURNED, H8_NINTH, H8_ELSEWHERE };   /* three of h8_routine alone */
 uint32_t h8_run(const uint32_t *board, size_t board_n, const uint8_t *rom, size_t rom_n, uint8_t *ram, size_t ram_n,
                 uint32_t *regs, size_t regs_n, uint32_t stop, uint32_t budget, uint64_t *answer, size_t answer_n);
 
-/* The figure of the routine at `entry`: the largest total of states over all paths from there to an RTS. On them an access at
-   an address in the code counts what its place costs. Where an address from a register will lie is not known, so an access
-   there, by ER7 too, counts what the dearest place on the board costs: a port, unless the area is empty.
+/* A run of one routine. It is as h8_run, and keeps the addresses that calls push, up to eight: BSR and every JSR push,
+   PUSH.L does not. It ends, beside h8_run's endings,
+   - H8_RETURNED when an RTS completes with none kept; that step is done and counted;
+   - H8_NINTH at a call with eight kept, H8_ELSEWHERE at an RTS that would go elsewhere than to the address kept last, both
+     unexecuted, with no step or state for it and nothing written, and only if that step is not refused: else it is the
+     refusal.
+   An RTS to the address kept last takes it off.
+   answer, 15 numbers: [number, place, group, steps done, the sum of their states, ending, how many addresses are kept, then
+   eight: the kept addresses in the order in which they were pushed, and 0].
+   It returns 0 unless the input or a step is refused. Looks for: 13 (answer_n below 15: nothing written), 13 (regs_n below
+   10: place 10), 12, 1, and before each step for the stop address and the budget, as h8_run. `regs` and `ram` are as the
+   completed steps leave them. */
+enum { H8_KEPT_MAX = 8, H8_ROUTINE_ANSWER = 15 };
+uint32_t h8_routine(const uint32_t *board, size_t board_n, const uint8_t *rom, size_t rom_n, uint8_t *ram, size_t ram_n,
+                    uint32_t *regs, size_t regs_n, uint32_t stop, uint32_t budget, uint64_t *answer, size_t answer_n);
+
+/* A RECORDING, as a logic probe writes it: the version byte 1, then one record for each instruction, eleven bytes:
+
+     bytes 0 and 1     the length of the rest, 9
+     bytes 2 to 5      PC
+     byte 6            the condition byte
+     bytes 7 to 10     the states since the start of the recording
+
+   all with the upper byte first. A record describes the moment before its instruction, so that the first one has the PC and
+   the condition byte of the start, and 0 states. The record of number c, counted from 0, begins at byte 11 * c + 1.
+
+   h8_replay replays a whole recording `file` from the given registers: each record is compared with PC, condition byte and
+   states here, in this order, and where all three agree one step is taken, after the last record too.
+   answer, 7 numbers: [number, place, group, records agreed, the sum of the states of their steps, report, field]; the report
+   of every refusal is H8_HALTED. As many steps are taken as records agreed, so after H8_DIFFERS the record of this number is
+   the first that differs, in `field`, and no step was taken for it; after H8_AGREED it is the length of the recording in
+   records.
+   Looks for: 13 (answer_n below 7: nothing written), 13 (regs_n below 10: place 10), 1; in these cases no step is done. Then
+   in the file: 19 (it is empty: place 0), 17, and record after record: 12 at the first byte of a record beyond 1,000,000
+   steps, whatever that record holds; 18 as soon as both bytes of its length are there, whatever follows; 19 if the file ends
+   inside the record; a difference; a refusal of the step, whose record agreed and is not counted.
+   It returns 0 if all agreed or a record differs. `regs` and `ram` are as the completed steps leave them, whatever the report.
+   (H8_MORE is no report of this function.) */
+enum h8_report { H8_AGREED, H8_DIFFERS, H8_HALTED, H8_MORE };
+enum h8_differs { H8_NO_FIELD, H8_FIELD_PC, H8_FIELD_CONDITION, H8_FIELD_STATES };
+#define H8_RECORD 11u
+uint32_t h8_replay(const uint32_t *board, size_t board_n, const uint8_t *rom, size_t rom_n, uint8_t *ram, size_t ram_n,
+                   uint32_t *regs, size_t regs_n, const uint8_t *file, size_t file_n, uint64_t *answer, size_t answer_n);
+
+/* A RECORDING THAT ARRIVES IN CUTS. Begin, take each delivery as it comes, end. A cut may fall anywhere, inside a record
+   too, and a delivery may be empty. Once the end is declared report, registers, working memory, records and states are those
+   of h8_replay on the deliveries joined, however they are cut.
+   `replay` is a lent array of H8_REPLAY numbers, which carries the replay from call to call: the first ten are the
+   registers, as `regs`; the others are the library's. It is filled by h8_replay_begin. Lend the same board, `rom` and `ram`
+   to each call; between the calls they are not looked at.
+   answer, 7 numbers, as h8_replay's: the report is H8_MORE while all agreed so far and more may come, also after no more
+   than a part of a record, or nothing: 19 is given at the end alone. A delivery after a difference, after a refusal or after
+   the end, an empty one too, and a second end, are 20: place 0, with the records and states as they stand, and nothing else
+   changes. The first end after a difference or a refusal repeats its report.
+   Looks for: 13 (answer_n below 7: nothing written), 13 (replay_n below H8_REPLAY: place H8_REPLAY), and by h8_replay_begin
+   13 (regs_n below 10: place 10); then nothing but `answer` is written. Then by h8_replay_begin 1, which the replay carries
+   on as any other refusal; by the others 20, and then as h8_replay. */
+enum { H8_REPLAY = 24 };
+uint32_t h8_replay_begin(const uint32_t *board, size_t board_n, const uint8_t *rom, size_t rom_n, const uint8_t *ram,
+                         size_t ram_n, const uint32_t *regs, size_t regs_n, uint32_t *replay, size_t replay_n,
+                         uint64_t *answer, size_t answer_n);
+uint32_t h8_replay_take(const uint32_t *board, size_t board_n, const uint8_t *rom, size_t rom_n, uint8_t *ram, size_t ram_n,
+                        uint32_t *replay, size_t replay_n, const uint8_t *bytes, size_t n, uint64_t *answer, size_t answer_n);
+uint32_t h8_replay_end(uint32_t *replay, size_t replay_n, uint64_t *answer, size_t answer_n);
+
+/* The figure of the routine at `entry`: the largest total of states over all paths from there to an RTS. A path follows BSR
+   and JSR @aa:24: such a call counts its own states and those of the longest path of the routine that it enters, and the
+   path goes on behind it. Calls may go anywhere in read-only memory, eight levels deep; other ways only up. On a path an
+   access at an address in the code counts what its place costs. Where an address from a register will lie is not known, so
+   an access there, by ER7 too, counts what the dearest place on the board costs: a port, unless the area is empty.
    Of the board only the area is looked at, not H8_BASE.
    answer, 4 numbers: [number, place, group, figure].
    Looks for: 13 (answer_n below 4: nothing written), 1 (no board that is right with this `rom` has this area: the length of
    `rom` is odd or over 524,288; the area's bus or its ends are wrong; it begins below the end of `rom`, ends above 2^24 or is
    longer than 65,536), 8, 13 (table_n below rom_n: place rom_n); in these cases the table stays. Else the table is filled:
-   for each place p, that is, each even address below rom_n, table[p] is its figure, 0 if refused, and table[p+1] is the
-   lowest forbidden place that its paths reach, H8_NONE if none. Numbers from table[rom_n] on stay. Then 2, 3, 4, 9, 10 or 15
-   at the entry's lowest forbidden place, or 0.
+   for each place p, that is, each even address below rom_n, table[p] is its figure as an entry's, 0 if refused, and
+   table[p+1] is the lowest forbidden place that its paths reach, in the routines that they call too, H8_NONE if none. A
+   place that reaches none and whose figure would be above 1,000,000,000 has 0 and its own address. Numbers from table[rom_n]
+   on stay. Then 2, 3, 4, 9, 10, 15 or 16 at the entry's lowest forbidden place, or 22, or 0.
    0: on every right board with this `rom` and this area (if it is empty: with any empty area), whatever its H8_BASE and `ram`,
-   and from any registers with PC at `entry`, a run comes to the end of its first RTS, or is refused by 5, 6, 7 or 14, within
-   `figure` states and rom_n / 2 steps. */
+   and from any registers with PC at `entry`, h8_routine with no stop address and enough budget, if that is at most
+   1,000,000, ends with H8_RETURNED or H8_ELSEWHERE or is refused by 5, 6, 7 or 14, and never takes more than `figure`
+   states, whatever its budget. */
 uint32_t h8_figure(const uint32_t *board, size_t board_n, const uint8_t *rom, size_t rom_n, uint32_t entry,
                    uint64_t *table, size_t table_n, uint64_t *answer, size_t answer_n);
 
 /* One instruction of the longest way: where the path of the largest total goes from `place`. Where next instruction and
-   target have the same figure it goes to the next instruction. Followed from an entry until H8_NONE, the states of the
-   instructions on the way, counted as h8_figure counts them, add up to that entry's figure.
+   target have the same figure it goes to the next instruction; from a call it goes to the next instruction too. Followed
+   from an entry until H8_NONE, the states of the instructions on the way, counted as h8_figure counts them, and the figures
+   of the routines that they call, which stand in the table, add up to that entry's figure.
    `table` is one that h8_figure filled for these bytes and this area. (With another table nothing is promised of the answer's
    numbers.) Of the board only the area is looked at, as by h8_figure.
    answer, 4 numbers: [number, place, group, next place, or H8_NONE if the routine returns here].
    Looks for: 13 (answer_n below 4: nothing written), 1, 8 (`place` odd or outside), 13 (table_n below rom_n: place rom_n),
-   then what h8_figure answers for this place as its entry: 2, 3, 4, 9, 10 or 15 at its lowest forbidden place. */
+   then what h8_figure answers for this place as its entry: 2, 3, 4, 9, 10, 15 or 16 at its lowest forbidden place, or 22.
+   But at a call whose row is 0 and its own address it is 22, also where the call comes to itself at the ninth level: the
+   table does not tell which, h8_figure does. */
 uint32_t h8_way(const uint32_t *board, size_t board_n, const uint8_t *rom, size_t rom_n, const uint64_t *table,
                 size_t table_n, uint32_t place, uint64_t *answer, size_t answer_n);
 
