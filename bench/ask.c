@@ -176,6 +176,45 @@ static void run(struct asked a)
     print_registers(a.regs);
 }
 
+static uint64_t recorded(const uint8_t *at, int bytes)
+{
+    uint64_t x = 0;
+    while (bytes-- > 0)
+        x = x << 8 | *at++;
+    return x;
+}
+
+static void print_difference(const uint8_t *record, const uint32_t *regs, const uint64_t *answer)
+{
+    printf("record %llu\n", (ull)answer[3] + 1);
+    if (answer[6] == H8_FIELD_PC) {
+        puts("field pc");
+        print_place("here", regs[H8_PC]);
+        print_place("recorded", recorded(record + 2, 4));
+    } else if (answer[6] == H8_FIELD_CONDITION)
+        printf("field condition\nhere 0x%02x\nrecorded 0x%02x\n", regs[H8_CONDITION], record[6]);
+    else
+        printf("field states\nhere %llu\nrecorded %llu\n", (ull)answer[4], (ull)recorded(record + 7, 4));
+    print_place("place", regs[H8_PC]);
+}
+
+static void replay(struct asked a, const char *path)
+{
+    static uint8_t file[1 << 16];
+    uint64_t answer[7];
+    size_t n = read_file(path, file, sizeof file);
+    memset(ram, 0, sizeof ram);
+    uint32_t refusal = h8_replay(board, H8_BOARD, rom, rom_n, ram, a.length, a.regs, H8_REGISTERS, file, n, answer, 7);
+    if (refusal)
+        print_refusal(answer);
+    if (refusal == 1)
+        return;
+    if (answer[5] == H8_DIFFERS)
+        print_difference(file + 1 + H8_RECORD * answer[3], a.regs, answer);
+    printf("agreed %llu\nstates %llu\n", (ull)answer[3], (ull)answer[4]);
+    print_registers(a.regs);
+}
+
 /* The board of the question: where `--port` is left out, no ports, in working memory or at the end of all. */
 static void take_board(char **word, int words)
 {
@@ -214,6 +253,8 @@ static void answer_words(char **word, int words)
         way(number(third));
     else if (!strcmp(word[0], "list"))
         list(number(third), fourth ? number(fourth) : UINT32_MAX);
+    else if (!strcmp(word[0], "replay"))
+        replay(asked(number(third), word, words), fourth);
     else
         run(asked(number(third), word, words));
 }

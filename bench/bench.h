@@ -68,6 +68,7 @@ void test_limits(void);
 void test_ports(void);
 void test_runs(const char *samples);
 void test_figures(void);
+void test_replay(void);
 void test_bad_input(void);
 
 #endif

@@ -79,12 +79,60 @@ static uint64_t figures(figure_function *f, int times)
     return (uint64_t)times * rom_n / 2;
 }
 
-/* What is measured: `which` 0 is the library, 1 plain C. Answers how many units were done. */
+/* A recording of the sheet counter in a loop, as a probe would write it, and the file that holds it. */
+static uint8_t recording[1 + H8_RECORD * H8_BUDGET_MAX];
+static FILE *recorded;
+
+static void put(uint8_t *at, uint32_t x, int bytes)
+{
+    while (bytes-- > 0)
+        at[bytes] = (uint8_t)x, x >>= 8;
+}
+
+static void record(void)
+{
+    uint32_t regs[10] = {0}, answer[4], states = 0;
+    memset(ram, 0, sizeof ram);
+    regs[H8_PC] = 0x200;
+    recording[0] = 1;
+    for (uint8_t *r = recording + 1; r < recording + sizeof recording; r += H8_RECORD) {
+        put(r, H8_RECORD - 2, 2);
+        put(r + 2, regs[H8_PC], 4);
+        put(r + 6, regs[H8_CONDITION], 1);
+        put(r + 7, states, 4);
+        plain_step(board, H8_BOARD, rom, rom_n, ram, RAM_N, regs, 10, answer, 4);
+        states += answer[3];
+    }
+    recorded = tmpfile();
+    if (!recorded || fwrite(recording, 1, sizeof recording, recorded) != sizeof recording)
+        exit(2);
+}
+
+/* The recording is read from its file by both: then it is replayed, or as many steps are run without looking at it. */
+static uint64_t replays(int run)
+{
+    uint64_t n = H8_BUDGET_MAX / piece, answer[7];
+    uint32_t regs[10] = {0};
+    rewind(recorded);
+    if (fread(recording, 1, 1 + H8_RECORD * n, recorded) != 1 + H8_RECORD * n)
+        exit(2);
+    memset(ram, 0, sizeof ram);
+    regs[H8_PC] = 0x200;
+    if (run)
+        h8_run(board, H8_BOARD, rom, rom_n, ram, RAM_N, regs, 10, 0xFFFFFFFF, (uint32_t)n, answer, 6);
+    else
+        h8_replay(board, H8_BOARD, rom, rom_n, ram, RAM_N, regs, 10, recording, 1 + H8_RECORD * n, answer, 7);
+    sum = answer[3] * 31 + answer[4] + regs[0] + regs[9] + ram[100];
+    return n;
+}
+
+/* What is measured: `which` 0 is the library, 1 plain C, or for the replay the same run of the library. Answers how many units were done. */
 struct work { const char *what, *unit; uint64_t (*work)(int which); };
 static uint64_t sheet(int w) { return runs(w ? plain_run : h8_run, 0x200, 0xFFFFFFFF, 4000000 / piece); }
 static uint64_t decimal(int w) { return runs(w ? plain_run : h8_run, 0, 0x24, 4000000 / piece); }
 static uint64_t copy(int w) { return runs(w ? plain_run : h8_run, 0, 0x22, 4000000 / piece); }
 static uint64_t one_by_one(int w) { return steps_alone(w ? plain_step : h8_step, 0, 2000000 / piece); }
+static uint64_t replayed(int w) { return replays(w); }
 static uint64_t branches(int w) { return figures(w ? plain_figure : h8_figure, piece == 1 ? 10 : 1); }
 
 static int ascending(const void *a, const void *b)
@@ -129,6 +177,7 @@ static const struct { const char *sample; struct work work; } all[] = {
     {"decimal", {"run, decimal counter up and down", "step", decimal}},
     {"copy", {"run, copy loop", "step", copy}},
     {"decimal", {"step, one call each, decimal counter", "step", one_by_one}},
+    {"sheet", {"replay and the same run, both with reading", "step", replayed}},
     {NULL, {"figure, 524,288 bytes of conditional branches", "place", branches}},
 };
 enum { WORKS = sizeof all / sizeof *all };
@@ -137,6 +186,8 @@ static void prepare(const char *folder, size_t i)
 {
     if (all[i].sample) {
         load(folder, all[i].sample);
+        if (all[i].work.work == replayed && !recorded)
+            record();
         return;
     }
     rom_n = ROM_MAX;

@@ -514,3 +514,131 @@ uint32_t h8_way(const uint32_t *board, size_t board_n, const uint8_t *rom, size_
         answer[3] = place + 2;                                                      /* always straight on */
     return answer_n < 4 ? got : wide_group(answer, got, group);
 }
+
+/* REPLAY, byte by byte: where it stands, and the part of a record that is read. */
+enum stage { VERSION, RECORDS, TOLD, CLOSED };
+struct standing {
+    uint32_t *regs, steps, stage, count, number, place, group, report, field;
+    uint64_t states;
+    uint8_t part[H8_RECORD];
+};
+struct replay_board {
+    const uint32_t *board;
+    size_t board_n, rom_n, ram_n;
+    const uint8_t *rom;
+    uint8_t *ram;
+};
+
+static void tell_halted(struct standing *s, uint32_t number, uint32_t place)
+{
+    s->stage = TOLD;
+    s->report = H8_HALTED;
+    s->number = number;
+    s->place = place;
+}
+
+/* One step: a run of one. */
+static uint32_t step_once(const struct replay_board *b, uint32_t *regs, uint64_t answer[6])
+{
+    return plain_run(b->board, b->board_n, b->rom, b->rom_n, b->ram, b->ram_n, regs, 10, 0xFFFFFFFF, 1, answer, 6);
+}
+
+static uint32_t part_long(const uint8_t *p) { return (uint32_t)p[0] << 24 | (uint32_t)p[1] << 16 | (uint32_t)p[2] << 8 | p[3]; }
+
+static void take_record(struct standing *s, const struct replay_board *b)
+{
+    uint64_t answer[6], here = FAULT == 150 ? s->states & 0xFFFFFF : s->states;     /* 150: the states wrap at 2^24 */
+    int pc = part_long(s->part + 2) != s->regs[H8_PC], condition = s->part[6] != s->regs[H8_CONDITION];
+    int states = part_long(s->part + 7) != here;
+    s->count = 0;
+    s->field = pc ? H8_FIELD_PC : condition ? H8_FIELD_CONDITION : states ? H8_FIELD_STATES : H8_NO_FIELD;
+    if (FAULT == 141 && condition && states && !pc)                                 /* states before the condition byte */
+        s->field = H8_FIELD_STATES;
+    if (s->field) {
+        s->stage = TOLD;
+        s->report = H8_DIFFERS;
+        if (FAULT == 142)                                                           /* a step before the comparison */
+            step_once(b, s->regs, answer);
+        s->steps += FAULT == 146;                                                   /* a difference counted as agreed */
+        return;
+    }
+    if (step_once(b, s->regs, answer)) {
+        tell_halted(s, (uint32_t)answer[0], (uint32_t)answer[1]);
+        s->group = FAULT == 153 ? 0 : (uint32_t)answer[2];                          /* 153: the group is lost */
+        s->steps += FAULT == 147;                                                   /* a refused step is counted */
+        return;
+    }
+    s->steps++;
+    s->states += answer[4];
+}
+
+static void take_byte(struct standing *s, const struct replay_board *b, uint8_t x)
+{
+    uint32_t begins = H8_RECORD * s->steps + 1, seen = FAULT == 143 ? H8_RECORD : FAULT == 148 ? 1 : 2;
+    if (s->stage == TOLD)
+        return;
+    if (s->stage == VERSION) {
+        s->stage = RECORDS;
+        if (x != 1)
+            tell_halted(s, 17, 0);
+        return;
+    }
+    s->part[s->count++] = x;
+    if (s->steps == 1000000 && s->count == (FAULT == 144 ? H8_RECORD : 1))          /* 144: 12 at a whole record only */
+        tell_halted(s, 12, 0);
+    else if ((s->count == seen || s->count == 2) && s->count >= seen && (s->part[0] || (s->count > 1 && s->part[1] != 9)))
+        tell_halted(s, 18, begins + (FAULT == 145 ? H8_RECORD : 0));                /* 143: looked for after eleven, 148: after one */
+    else if (s->count == H8_RECORD)                                                 /* 145: a record late */
+        take_record(s, b);
+}
+
+/* The report at the end. */
+static void close_standing(struct standing *s, size_t file_n)
+{
+    uint32_t begins = s->stage == VERSION ? 0 : H8_RECORD * s->steps + 1;
+    if (s->stage == VERSION && FAULT != 149)                                        /* 149: an empty file agrees */
+        tell_halted(s, 19, 0);
+    if (s->stage == RECORDS && s->count)
+        tell_halted(s, 19, FAULT == 152 ? (uint32_t)file_n : begins);               /* 152: where the file ends */
+    s->stage = CLOSED;
+}
+
+static uint32_t tell_standing(const struct standing *s, uint64_t *answer)
+{
+    const uint64_t told[] = {s->number, s->place, s->group, s->steps, s->states, s->report, s->field};
+    memcpy(answer, told, sizeof told);
+    return s->number;
+}
+
+static struct standing begin_standing(const struct replay_board *b, uint32_t *regs)
+{
+    uint64_t answer[6];
+    struct standing s = {.regs = regs, .report = H8_AGREED};
+    if (plain_run(b->board, b->board_n, b->rom, b->rom_n, b->ram, b->ram_n, regs, 10, 0, 0, answer, 6) == 1)
+        tell_halted(&s, 1, 0);
+    return s;
+}
+
+uint32_t h8_replay(const uint32_t *board, size_t board_n, const uint8_t *rom, size_t rom_n, uint8_t *ram, size_t ram_n,
+                   uint32_t *regs, size_t regs_n, const uint8_t *file, size_t file_n, uint64_t *answer, size_t answer_n)
+{
+    const struct replay_board b = {board, board_n, rom_n, ram_n, rom, ram};
+    uint32_t before[10];
+    if (answer_n < 7)
+        return 13;
+    if (regs_n < 10)
+        return tell_standing(&(struct standing){.number = 13, .place = 10, .report = H8_HALTED}, answer);
+    struct standing s = begin_standing(&b, regs);
+    if (FAULT == 154 && s.number == 1 && file_n && file[0] != 1)                    /* the version before the board */
+        tell_halted(&s, 17, 0);
+    memcpy(before, regs, sizeof before);
+    for (size_t i = 0; i < file_n; i++) {
+        if (s.count == 0)
+            memcpy(before, regs, sizeof before);
+        take_byte(&s, &b, file[i]);
+    }
+    close_standing(&s, file_n);
+    if (FAULT == 151 && s.report == H8_AGREED)                                      /* no step after the last record */
+        memcpy(regs, before, sizeof before);
+    return tell_standing(&s, answer);
+}

@@ -1,9 +1,10 @@
 /* h8.h: the H8/300H processor in proved software, for programs in C.
 
-   Six functions over numbers and lent arrays. An array is lent as a pointer and its length in elements. The library keeps
+   Seven functions over numbers and lent arrays. An array is lent as a pointer and its length in elements. The library keeps
    nothing between calls, allocates nothing, prints nothing and calls nothing.
 
    WHAT CHANGED, the newest first. Programs that it concerns have to be compiled again with this header.
+   - New: h8_replay, which replays a run against a recording, with refusals 17, 18 and 19. It concerns no other function.
    - The board carries a port area, where a data access takes more states; THE BOARD below describes it. So the board is lent,
      as four numbers: h8_step and h8_run take it in place of `base`, h8_figure and h8_way before `rom`. It concerns every
      program that calls one of these four. Without ports the board is { base, base, base, 8 }, and its states and figures are
@@ -38,6 +39,9 @@
      13   a lent array is too short                                                  the length it needs
      14   a zero divisor, or a quotient that does not fit                            the instruction
      15   a code of the manual that this set leaves out, or its beginning            the address
+     17   the version byte of a recording is not 1                                   0
+     18   the length of a record is not 9                                            the byte where the record begins
+     19   a record is unfinished, or the recording is empty                          the byte where it begins
 
    Each function also writes this number, its place and its group to the first three numbers of the lent array `answer`. The
    group is 0 with every number but 15. There it is the group of the code that is left out: 3 MOV with displacement d:24,
@@ -48,8 +52,8 @@
    written. A `regs` or a `fields` to be filled that is too short is looked for next. After these two each function's own
    order follows.
 
-   On a refusal nothing lent changes but `answer`, with two exceptions: h8_run keeps the steps it completed, and h8_figure
-   fills its table on 2, 3, 4, 9, 10 and 15.
+   On a refusal nothing lent changes but `answer`, with these exceptions: h8_run and h8_replay keep the steps they completed,
+   and h8_figure fills its table on 2, 3, 4, 9, 10 and 15.
 
    AN EXAMPLE: how many states a routine at 0x100 can take, on boards with ports from 0xFFFF20 on behind a bus of 8 bits.
 
@@ -197,6 +201,33 @@ uint32_t h8_step(const uint32_t *board, size_t board_n, const uint8_t *rom, size
 enum h8_ending { H8_STOPPED, H8_SPENT, H8_REFUSED };
 uint32_t h8_run(const uint32_t *board, size_t board_n, const uint8_t *rom, size_t rom_n, uint8_t *ram, size_t ram_n,
                 uint32_t *regs, size_t regs_n, uint32_t stop, uint32_t budget, uint64_t *answer, size_t answer_n);
+
+/* A RECORDING, as a logic probe writes it: the version byte 1, then one record for each instruction, eleven bytes:
+
+     bytes 0 and 1     the length of the rest, 9
+     bytes 2 to 5      PC
+     byte 6            the condition byte
+     bytes 7 to 10     the states since the start of the recording
+
+   all with the upper byte first. A record describes the moment before its instruction, so that the first one has the PC and the
+   condition byte of the start, and 0 states. The record of number c, counted from 0, begins at byte 11 * c + 1.
+
+   h8_replay replays a whole recording `file` from the given registers: each record is compared with PC, condition byte and
+   states here, in this order, and where all three agree one step is taken, after the last record too.
+   answer, 7 numbers: [number, place, group, records agreed, the sum of the states of their steps, report, field]; the report of
+   every refusal is H8_HALTED. As many steps are taken as records agreed, so after H8_DIFFERS the record of this number is the
+   first that differs, in `field`, and no step was taken for it; after H8_AGREED it is the length of the recording in records.
+   Looks for: 13 (answer_n below 7: nothing written), 13 (regs_n below 10: place 10), 1; in these cases no step is done. Then in
+   the file: 19 (it is empty: place 0), 17, and record after record: 12 at the first byte of a record beyond 1,000,000 steps,
+   whatever that record holds; 18 as soon as both bytes of its length are there, whatever follows; 19 if the file ends inside the
+   record; a difference; a refusal of the step, whose record agreed and is not counted.
+   It returns 0 if all agreed or a record differs. `regs` and `ram` are as the completed steps leave them, whatever the report.
+   (H8_MORE is no report of this function.) */
+enum h8_report { H8_AGREED, H8_DIFFERS, H8_HALTED, H8_MORE };
+enum h8_differs { H8_NO_FIELD, H8_FIELD_PC, H8_FIELD_CONDITION, H8_FIELD_STATES };
+#define H8_RECORD 11u
+uint32_t h8_replay(const uint32_t *board, size_t board_n, const uint8_t *rom, size_t rom_n, uint8_t *ram, size_t ram_n,
+                   uint32_t *regs, size_t regs_n, const uint8_t *file, size_t file_n, uint64_t *answer, size_t answer_n);
 
 /* The figure of the routine at `entry`: the largest total of states over all paths from there to an RTS. On them an access at
    an address in the code counts what its place costs. Where an address from a register will lie is not known, so an access

@@ -9,7 +9,7 @@ use Rattle.text.specs.Lines.{ascii}
 use Rattle.asking.specs.declared.words.Kind.{Kind}
 use Rattle.asking.specs.declared.words.Kind.the-variants.{AWord, PlainOption, RamOption, PortOption, BudgetOption, StopOption, ErOption, NoOption}
 use Rattle.asking.specs.declared.words.Use.{Use}
-use Rattle.asking.specs.declared.words.Use.the-variants.{ForFigure, ForWay, ForList, ForRun, ForHelp, NoUse}
+use Rattle.asking.specs.declared.words.Use.the-variants.{ForFigure, ForWay, ForList, ForRun, ForReplay, ForHelp, NoUse}
 
 unfoldable pub sameText : List ℕ → List ℕ → Bool
 sameText [] [] = true
@@ -35,7 +35,8 @@ useOf s =
     cond (sameText s (ascii "help")) ForHelp
     (cond (sameText s (ascii "figure")) ForFigure
     (cond (sameText s (ascii "way")) ForWay
-    (cond (sameText s (ascii "list")) ForList (cond (sameText s (ascii "run")) ForRun NoUse))))
+    (cond (sameText s (ascii "list")) ForList
+    (cond (sameText s (ascii "run")) ForRun (cond (sameText s (ascii "replay")) ForReplay NoUse)))))
 
 -- as other programs are asked for help
 abbrev pub helpAsked : List ℕ → Bool

@@ -19,6 +19,7 @@ pub enum Use {
     ForWay,
     ForList,
     ForRun,
+    ForReplay,
     ForHelp,
     NoUse,
 }
@@ -89,7 +90,10 @@ pub fn use_of(s: &[u8]) -> Use
         return Use::ForList;
     }
     if same(s, b"run") {
-        Use::ForRun
+        return Use::ForRun;
+    }
+    if same(s, b"replay") {
+        Use::ForReplay
     } else {
         Use::NoUse
     }

@@ -91,6 +91,19 @@ fn ports_of(base: u64, end: u64, bus: u64) -> PortArea {
     }
 }
 
+// What was asked, with the ports and the ROM's length.
+pub fn with_area(g: Given, area: Area, rom: &[u8]) -> Given {
+    Given {
+        entry: g.entry,
+        base: g.base,
+        length: g.length,
+        stop: g.stop,
+        budget: g.budget,
+        area,
+        code: (rom.len() % 4294967296) as u32,
+    }
+}
+
 // The width of the ports' bus; if it is wrong, a line says so.
 fn bits(plain: bool, i: usize) -> Got {
     let Got::Found(n) = fault::number(plain, b"BITS of --port", i, 16, b"8 or 16") else {

@@ -38,11 +38,15 @@ pub fn wrong(plain: bool, name: &[u8], i: usize, expected: &[u8]) {
     show::write(asking::expected(text::blank(), expected));
 }
 
-// The ROM's file and what is wrong with it.
-pub fn file(plain: bool, i: usize, what: &[u8]) {
-    show::write(asking::wrong(text::blank(), plain, b"ROM", b" "));
+// A file and what is wrong with it.
+pub fn named(plain: bool, name: &[u8], i: usize, what: &[u8]) {
+    show::write(asking::wrong(text::blank(), plain, name, b" "));
     given(i);
     io::write_all(1, what);
+}
+
+pub fn file(plain: bool, i: usize, what: &[u8]) {
+    named(plain, b"ROM", i, what);
 }
 
 fn within(plain: bool, name: &[u8], i: usize, most: u64, expected: &[u8], v: u64) -> Got {

@@ -57,9 +57,9 @@ fn reason(e: i32) {
     }
 }
 
-fn unread(plain: bool, i: usize) {
+pub fn unread(plain: bool, name: &[u8], i: usize) {
     let e = os::errno();
-    fault::file(plain, i, b" can't be read: ");
+    fault::named(plain, name, i, b" can't be read: ");
     reason(e);
 }
 
@@ -92,7 +92,7 @@ fn checked(plain: bool, i: usize, f: Loaded) -> Loaded {
     match f {
         Loaded::Bytes(n) => fit(plain, i, n),
         Loaded::NotLoaded => {
-            unread(plain, i);
+            unread(plain, b"ROM", i);
             Loaded::NotLoaded
         }
     }

@@ -9,6 +9,8 @@ pub fn show_help() {
   h8 list ROM [FROM [TO]]        a listing of the places FROM to TO, with the figure of each
   h8 run ROM ENTRY --ram BASE LENGTH [--budget N] [--stop ADDRESS] [--er N VALUE]...
                                  runs from ENTRY; prints registers, flags, steps, states and why it ended
+  h8 replay ROM ENTRY RECORDING --ram BASE LENGTH [--er N VALUE]...
+                                 runs from ENTRY beside a recording; says which record differs first, and in what
   h8 help                        this text
 
 ROM is a file, its first byte at address 0: an even number of bytes, at most 524288.

@@ -5,6 +5,7 @@ mod fault;
 mod file;
 mod help;
 mod places;
+mod replays;
 mod runs;
 mod show;
 
@@ -28,20 +29,36 @@ fn surplus(q: Request, u: Use) -> usize {
         Use::ForWay => either(q.fourth, q.extra),
         Use::ForList => q.extra,
         Use::ForRun => either(q.fourth, q.extra),
+        Use::ForReplay => q.extra,
         Use::ForHelp => either(q.second, q.extra),
         Use::NoUse => 0,
     }
 }
 
-// An option of `h8 run` beside another use. Ports are of no use to `h8 help` either.
+// An option of `h8 run` alone beside another use. Ports are of no use to `h8 help` either.
 fn astray(q: Request, u: Use) -> usize {
-    let i = either(either(q.ram, q.budget), either(q.stop, q.er));
+    let i = either(q.budget, q.stop);
     match u {
         Use::ForFigure => i,
         Use::ForWay => i,
         Use::ForList => i,
         Use::ForRun => 0,
+        Use::ForReplay => i,
         Use::ForHelp => either(i, q.port),
+        Use::NoUse => 0,
+    }
+}
+
+// An option of `h8 run` and `h8 replay` beside another use.
+fn strayed(q: Request, u: Use) -> usize {
+    let i = either(q.ram, q.er);
+    match u {
+        Use::ForFigure => i,
+        Use::ForWay => i,
+        Use::ForList => i,
+        Use::ForRun => 0,
+        Use::ForReplay => 0,
+        Use::ForHelp => i,
         Use::NoUse => 0,
     }
 }
@@ -72,11 +89,19 @@ fn faulty(q: Request, u: Use) -> bool {
     ) {
         return true;
     }
-    told(
+    if told(
         q.plain,
         b"the option",
         astray(q, u),
         b"it with `h8 run` only",
+    ) {
+        return true;
+    }
+    told(
+        q.plain,
+        b"the option",
+        strayed(q, u),
+        b"it with `h8 run` or `h8 replay` only",
     )
 }
 
@@ -247,24 +272,32 @@ fn with_room(q: Request, u: Use) {
     with_arrays(q, u, &mut rom, &mut table);
 }
 
-fn run_file(q: Request, rom: &mut [u8], ram: &mut [u8]) {
+fn run_or_replay(q: Request, u: Use, rom: &[u8], ram: &mut [u8]) {
+    if let Use::ForRun = u {
+        runs::show_run(q, rom, ram);
+    } else {
+        replays::show_replay(q, rom, ram);
+    }
+}
+
+fn run_file(q: Request, u: Use, rom: &mut [u8], ram: &mut [u8]) {
     let Loaded::Bytes(n) = file::load(q.plain, q.second, rom) else {
         return;
     };
     if n <= rom.len() {
-        runs::show_run(q, &rom[0..n], ram);
+        run_or_replay(q, u, &rom[0..n], ram);
     }
 }
 
-fn run_arrays(q: Request, rom: &mut [u8; 524290], ram: &mut [u8; 65536]) {
-    run_file(q, rom, ram);
+fn run_arrays(q: Request, u: Use, rom: &mut [u8; 524290], ram: &mut [u8; 65536]) {
+    run_file(q, u, rom, ram);
 }
 
-// The same for a run, with the longest working memory.
-fn run_room(q: Request) {
+// The same for a run or a replay, with the longest working memory.
+fn run_room(q: Request, u: Use) {
     let mut rom = [0u8; 524290];
     let mut ram = [0u8; 65536];
-    run_arrays(q, &mut rom, &mut ram);
+    run_arrays(q, u, &mut rom, &mut ram);
 }
 
 fn main() {
@@ -281,13 +314,14 @@ fn main() {
         Use::ForFigure => with_room(q, u),
         Use::ForWay => with_room(q, u),
         Use::ForList => with_room(q, u),
-        Use::ForRun => run_room(q),
+        Use::ForRun => run_room(q, u),
+        Use::ForReplay => run_room(q, u),
         Use::ForHelp => help::show_help(),
         Use::NoUse => fault::wrong(
             q.plain,
             b"the use",
             q.first,
-            b"figure, way, list, run or help",
+            b"figure, way, list, run, replay or help",
         ),
     }
 }

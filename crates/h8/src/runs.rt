@@ -36,21 +36,7 @@ fn with_ports(q: Request, rom: &[u8], ram: &mut [u8], g: Given) {
     let p = asked::ports(q, g.base);
     if !p.bad {
         let area = p.area;
-        let code = (rom.len() % 4294967296) as u32;
-        begun(
-            q,
-            rom,
-            ram,
-            Given {
-                area,
-                code,
-                entry: g.entry,
-                base: g.base,
-                length: g.length,
-                stop: g.stop,
-                budget: g.budget,
-            },
-        );
+        begun(q, rom, ram, asked::with_area(g, area, rom));
     }
 }
 

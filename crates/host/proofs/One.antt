@@ -10,6 +10,7 @@ use Rattle.layout.specs.Names.{Instruction}
 use Rattle.figure.proofs.Answered.{figured-one}
 use Rattle.host.specs.Codes.{decodeLeft, DecodeCall, untold, fields-short, decoded, Spells, EncodeCall, answer-short, unspelt, encoded}
 use Rattle.host.specs.Steps.{stepCall, runCall}
+use Rattle.host.specs.Replays.{replayCall}
 use Rattle.host.specs.Figures as figures
 use Rattle.host.specs.Figures.{FigureCall, figured, wayCall}
 use Rattle.host.proofs.Coded.{spells-names}
@@ -54,6 +55,9 @@ step-one board rom ram regs answer = equal (stepCall board rom ram regs answer)
 
 pub run-one : (board rom ram regs : List ℕ) (stop budget : ℕ) (answer : List ℕ) → One (λ x. x ≡ runCall board rom ram regs stop budget answer)
 run-one board rom ram regs stop budget answer = equal (runCall board rom ram regs stop budget answer)
+
+pub replay-one : (board rom ram regs file answer : List ℕ) → One (λ x. x ≡ replayCall board rom ram regs file answer)
+replay-one board rom ram regs file answer = equal (replayCall board rom ram regs file answer)
 
 pub figure-one : (board rom : List ℕ) (entry : ℕ) (table answer : List ℕ) → One (FigureCall board rom entry table answer)
 figure-one board rom entry table answer x y (figures.answer-short h) (figures.answer-short k) = refl

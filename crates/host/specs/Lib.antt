@@ -4,3 +4,5 @@ pub mod Steps
 pub mod Figures
 pub mod MirrorCodes
 pub mod MirrorSteps
+pub mod Replays
+pub mod MirrorReplays

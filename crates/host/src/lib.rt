@@ -2,4 +2,5 @@
 mod answers;
 mod decoding;
 mod figures;
+mod replays;
 mod stepping;

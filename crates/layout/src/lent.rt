@@ -73,6 +73,13 @@ pub fn put_six_wide(l: &mut [u64], a: u64, b: u64, c: u64, d: u64, e: u64, f: u6
     put_wide(l, 5, f)
 }
 
+pub fn put_seven_wide(l: &mut [u64], a: u64, b: u64, c: u64, d: u64, e: u64, f: u64, g: u64)
+    ensures { λ _. ⌜ now (l .exit) ≡ sets (now (l .entry)) 0 (a ∷ b ∷ c ∷ d ∷ e ∷ f ∷ g ∷ []) ⌝ }
+{
+    put_six_wide(l, a, b, c, d, e, f);
+    put_wide(l, 6, g)
+}
+
 pub fn row_in(l: &[u32]) -> Row
     ensures { λ r. ⌜ r ≡ rowIn (now (l .entry)) ⌝ }
 {

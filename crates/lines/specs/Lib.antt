@@ -3,3 +3,4 @@ pub mod Figures
 pub mod Places
 pub mod Ports
 pub mod Runs
+pub mod Replays

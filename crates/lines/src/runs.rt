@@ -72,7 +72,7 @@ fn argument(l: Line, g: Given, f: Refusal) -> Line
 }
 
 // What is refused before the first step lies in the arguments: 1 and 12.
-fn wrong(l: Line, g: Given, f: Refusal, plain: bool) -> Line
+pub fn wrong(l: Line, g: Given, f: Refusal, plain: bool) -> Line
     ensures { λ r. ⌜ Adds l (wrongText g f plain) r ⌝ }
 {
     let a = parts::before(l, f, plain);

@@ -25,7 +25,8 @@ use Rattle.turns.specs.declared.Turn.{Turn}
 use Rattle.turns.specs.MirrorTurn.{toldAs, toldIn}
 use Rattle.turns.proofs.Laws.{told-done, told-refused}
 use Rattle.run.specs.MirrorKept.{Means}
-use Rattle.run.specs.Run.{ran, told, runFrom}
+use Rattle.run.specs.Run.{ran, told}
+use Rattle.run.specs.MirrorAlong.{straysOf, alongFrom}
 use Rattle.run.specs.declared.Ending.the-variants.{AtStop, Spent, Halted}
 
 -- ---- a kind that is not there
@@ -115,18 +116,27 @@ pc-fits good pc h =
     let (e, l) = both (eqb (pc % 2) 0) (ltb pc 16777216) (both good (goodPc pc) h .1) in
     (ltb-true pc 16777216 l, eqb-true (pc % 2) 0 e)
 
-module _ (b : Board) (rom : List ℕ) (stop : ℕ) (ram : List ℕ) (r : Registers) (steps states : ℕ) where
-  at-stop : (n : ℕ) → eqb (r .pc) stop ≡ true → runFrom b rom stop n ram r steps states ≡ ran (told r steps states AtStop) ram
-  unfolding runFrom
+module _ (b : Board) (rom : List ℕ) (stop : ℕ) (w ram : List ℕ) (r : Registers) (steps states : ℕ) where
+  at-stop : (n : ℕ) → eqb (r .pc) stop ≡ true → alongFrom b rom stop w n ram r steps states ≡ ran (told r steps states AtStop) ram
+  unfolding alongFrom
   at-stop zero e = rw e
   at-stop (suc n) e = rw e
 
-  pub stops : (n : ℕ) → r .pc ≡ stop → runFrom b rom stop n ram r steps states ≡ ran (told r steps states AtStop) ram
+  pub stops : (n : ℕ) → r .pc ≡ stop → alongFrom b rom stop w n ram r steps states ≡ ran (told r steps states AtStop) ram
   stops n h = at-stop n (eq-eqb _ _ h)
 
-  pub spent : (budget : ℕ) → (r .pc ≡ stop → ⊥) → steps ≡ budget → runFrom b rom stop (budget - steps) ram r steps states ≡ ran (told r steps states Spent) ram
-  unfolding runFrom
+  pub spent : (budget : ℕ) → (r .pc ≡ stop → ⊥) → steps ≡ budget → alongFrom b rom stop w (budget - steps) ram r steps states ≡ ran (told r steps states Spent) ram
+  unfolding alongFrom
   spent budget h e = let z : budget - steps ≡ zero = omega arith in rw (z, ne-eqb _ _ h)
+
+  -- a step of the budget is left, and PC is not at the stop address
+  module _ (budget : ℕ) (off : r .pc ≡ stop → ⊥) (le : steps ≤ budget) (ne : steps ≡ budget → ⊥) where
+    left : budget - steps ≡ suc (budget - (steps + 1))
+    left = omega arith
+
+    pub strayed : straysOf w steps (r .pc) (r .condition) states ≡ true → alongFrom b rom stop w (budget - steps) ram r steps states ≡ ran (told r steps states AtStop) ram
+    unfolding alongFrom
+    strayed h = rw (left, ne-eqb _ _ off, h)
 
   module _ (good : goodStart b rom ram r ≡ true) (a : StepAnswer) (m : List ℕ) (e : after a m ≡ fetchOf r b rom ram) where
     step-is : stepOf b rom ram r ≡ after a m
@@ -145,15 +155,12 @@ module _ (b : Board) (rom : List ℕ) (stop : ℕ) (ram : List ℕ) (r : Registe
       pub still-good : goodStart b rom m (a .regs) ≡ true
       still-good = rw (kept .length-stays, both (goodBoard b (length rom) (length ram)) (goodPc (r .pc)) good .0) (kept .pc-good)
 
-    module _ (budget : ℕ) (off : r .pc ≡ stop → ⊥) (le : steps ≤ budget) (ne : steps ≡ budget → ⊥) where
-      left : budget - steps ≡ suc (budget - (steps + 1))
-      left = omega arith
-
+    module _ (budget : ℕ) (off : r .pc ≡ stop → ⊥) (le : steps ≤ budget) (ne : steps ≡ budget → ⊥) (on : straysOf w steps (r .pc) (r .condition) states ≡ false) where
       pub goes-on : a .outcome ≡ Done
-          → runFrom b rom stop (budget - steps) ram r steps states ≡ runFrom b rom stop (budget - (steps + 1)) m (a .regs) (steps + 1) (states + a .states)
-      unfolding runFrom
-      goes-on d = rw (left, ne-eqb _ _ off, step-is, d)
+          → alongFrom b rom stop w (budget - steps) ram r steps states ≡ alongFrom b rom stop w (budget - (steps + 1)) m (a .regs) (steps + 1) (states + a .states)
+      unfolding alongFrom
+      goes-on d = rw (left budget off le ne, ne-eqb _ _ off, on, step-is, d)
 
-      pub refused : (f : Refusal) → a .outcome ≡ Refused f → runFrom b rom stop (budget - steps) ram r steps states ≡ ran (told r steps states (Halted f)) m
-      unfolding runFrom
-      refused f d = rw (left, ne-eqb _ _ off, step-is, d)
+      pub refused : (f : Refusal) → a .outcome ≡ Refused f → alongFrom b rom stop w (budget - steps) ram r steps states ≡ ran (told r steps states (Halted f)) m
+      unfolding alongFrom
+      refused f d = rw (left budget off le ne, ne-eqb _ _ off, on, step-is, d)

@@ -8,10 +8,12 @@ ghost use mathlib.Core.Path.{_≡_};
 ghost use mathlib.Core.Bool.{true, _&&_};
 ghost use Prim.Native.Nat.{_%_, _≤_};
 ghost use Rattle.step.specs.Step.{after, answered, goodStart, stepOf};
+ghost use Rattle.run.specs.MirrorAlong.{Covers, alongFrom, startOf, fewerOf, alongOf};
 ghost use Rattle.run.specs.MirrorKept.{Keeps};
 ghost use Rattle.run.specs.MirrorSingle.{outcomeOf};
-ghost use Rattle.run.specs.Run.{ran, told, runFrom, runOf};
+ghost use Rattle.run.specs.Run.{ran, told, runOf};
 
+mod beside;
 mod kept;
 
 // Why a run ended.
@@ -40,7 +42,8 @@ fn answer(r: Registers, steps: u32, states: u64, why: Ending) -> RunAnswer
 }
 
 // The board was looked at once; it stays right, and PC stays one that can be. The registers lie here, and each group of entries is called
-// once, from here: so the compiler puts the whole of a step into this loop, which is why the loop is not parted.
+// once, from here: so the compiler puts the whole of a step into this loop, which is why the loop is not parted, and why a replay's records are
+// looked at here too. A run has none.
 fn repeat(
     b: Board,
     rom: &[u8],
@@ -49,21 +52,26 @@ fn repeat(
     r: Registers,
     stop: u32,
     budget: u32,
+    records: &[u8],
+    before: u32,
 ) -> RunAnswer
-    requires { ⌜ (budget ≤ 1000000) × (goodStart b (now rom) (now ram) r ≡ true) × Keeps (now rom) (now lines) ⌝ }
-    ensures { λ q. ⌜ ran q (now (ram .exit)) ≡ runFrom b (now (rom .entry)) stop budget (now (ram .entry)) r 0 0 ⌝ }
+    requires { ⌜ (budget ≤ 1000000) × (goodStart b (now rom) (now ram) r ≡ true) × Keeps (now rom) (now lines) × Covers (now records) budget ⌝ }
+    ensures { λ q. ⌜ ran q (now (ram .exit)) ≡ alongFrom b (now (rom .entry)) stop (now (records .entry)) budget (now (ram .entry)) r 0 before ⌝ }
 {
     let mut er = r.er;
     let mut pc = r.pc;
     let mut f = r.condition;
     let mut steps: u32 = 0;
-    let mut states: u64 = 0;
+    let mut states: u64 = before as u64;
     let why = loop {
         if pc == stop {
             break Ending::AtStop;
         }
         if steps == budget {
             break Ending::Spent;
+        }
+        if beside::strays(records, steps, pc, f, states) {
+            break Ending::AtStop;
         }
         let at = pc as usize;
         if rom.len() <= at {
@@ -129,24 +137,53 @@ fn start(
     r: Registers,
     stop: u32,
     budget: u32,
+    records: &[u8],
+    before: u32,
 ) -> RunAnswer
-    requires { ⌜ Keeps (now rom) (now lines) ⌝ }
-    ensures { λ q. ⌜ ran q (now (ram .exit)) ≡ runOf b (now (rom .entry)) (now (ram .entry)) r stop budget ⌝ }
+    requires { ⌜ Keeps (now rom) (now lines) × Covers (now records) budget ⌝ }
+    ensures { λ q. ⌜ ran q (now (ram .exit)) ≡ startOf b (now (rom .entry)) (now (ram .entry)) r stop budget (now (records .entry)) before ⌝ }
 {
     if 1000000 < budget {
-        return answer(r, 0, 0, Ending::Halted(Refusal::BudgetTooLarge));
+        return answer(r, 0, before as u64, Ending::Halted(Refusal::BudgetTooLarge));
     }
     if memory::good_board(b, rom, &ram[..]) & step::good_pc(r.pc) {
-        return repeat(b, rom, lines, ram, r, stop, budget);
+        return repeat(b, rom, lines, ram, r, stop, budget, records, before);
     }
-    answer(r, 0, 0, Ending::Halted(Refusal::BadBoard))
+    answer(r, 0, before as u64, Ending::Halted(Refusal::BadBoard))
 }
 
 pub fn run(b: Board, rom: &[u8], ram: &mut [u8], r: Registers, stop: u32, budget: u32) -> RunAnswer
     ensures { λ q. ⌜ ran q (now (ram .exit)) ≡ runOf b (now (rom .entry)) (now (ram .entry)) r stop budget ⌝ }
 {
     let mut lines: [u64; 256] = [0; 256];
-    start(b, rom, &mut lines, ram, r, stop, budget)
+    let none: [u8; 0] = [0; 0];
+    start(b, rom, &mut lines, ram, r, stop, budget, &none, 0)
+}
+
+fn fewer(n: usize, m: u32) -> u32
+    ensures { λ k. ⌜ k ≡ fewerOf n m ⌝ }
+{
+    if n < m as usize {
+        return n as u32;
+    }
+    m
+}
+
+// A run beside whole records, after so many states: as far as each describes the moment before its step.
+pub fn along(
+    b: Board,
+    rom: &[u8],
+    ram: &mut [u8],
+    r: Registers,
+    budget: u32,
+    records: &[u8],
+    before: u32,
+) -> RunAnswer
+    ensures { λ q. ⌜ ran q (now (ram .exit)) ≡ alongOf b (now (rom .entry)) (now (ram .entry)) r budget (now (records .entry)) before ⌝ }
+{
+    let mut lines: [u64; 256] = [0; 256];
+    let n = fewer(records.len() / 11, budget);
+    start(b, rom, &mut lines, ram, r, 1, n, records, before)
 }
 
 fn outcome(why: Ending) -> Outcome
@@ -174,8 +211,9 @@ fn ended(q: Registers, states: u64, why: Ending) -> StepAnswer
 pub fn single(b: Board, rom: &[u8], ram: &mut [u8], r: Registers) -> StepAnswer
     ensures { λ q. ⌜ after q (now (ram .exit)) ≡ stepOf b (now (rom .entry)) (now (ram .entry)) r ⌝ }
 {
-    let mut none: [u64; 0] = [0; 0];
-    let a = start(b, rom, &mut none, ram, r, 1, 1);
+    let mut lines: [u64; 0] = [0; 0];
+    let none: [u8; 0] = [0; 0];
+    let a = start(b, rom, &mut lines, ram, r, 1, 1, &none, 0);
     let q = a.regs;
     let why = a.why;
     ended(q, a.states, why)

@@ -5,7 +5,7 @@ use mathlib.Core.List.{List, _++_}
 use lib.Dec.{eqb}
 use lib.ListN.{length}
 use Rattle.refusal.specs.declared.Refusal.{Refusal}
-use Rattle.refusal.specs.declared.Refusal.the-variants.{BadBoard, FetchOutside, UnknownCode, CutShort, ReadOutside, WriteOutside, NoAdjustRow, BadEntry, NotFollowed, NotUpward, NotInstruction, BudgetTooLarge, LentTooShort, DivideFails, LeftOut}
+use Rattle.refusal.specs.declared.Refusal.the-variants.{BadBoard, FetchOutside, UnknownCode, CutShort, ReadOutside, WriteOutside, NoAdjustRow, BadEntry, NotFollowed, NotUpward, NotInstruction, BudgetTooLarge, LentTooShort, DivideFails, LeftOut, BadVersion, BadLength, Unfinished, ReplayEnded}
 use Rattle.paths.specs.declared.Flow.{Flow}
 use Rattle.paths.specs.declared.Flow.the-variants.{Next, Jump, Either, Ends, Stop}
 use Rattle.site.specs.Costs.{noPorts}
@@ -69,6 +69,10 @@ groupName g =
 abbrev pub leftOutText : ℕ → ℕ → List ℕ
 leftOutText p g = ascii "15" ++ (atPlace p ++ (groupName g ++ (ascii ", group " ++ (decimalOf g ++ ascii ", which this set leaves out"))))
 
+-- of a replay; its place is a byte of the recording
+abbrev pub recordText : List ℕ → ℕ → List ℕ → List ℕ
+recordText number p what = number ++ (ascii " at byte " ++ (decimalOf p ++ (ascii " of the recording: " ++ what)))
+
 abbrev pub refusalText : List ℕ → Refusal → List ℕ
 refusalText rom BadBoard = ascii "1: the board is wrong, or PC is odd or at least 0x1000000"
 refusalText rom (FetchOutside p) = outsideText (length rom) p
@@ -85,3 +89,7 @@ refusalText rom BudgetTooLarge = ascii "12: the budget is over 1000000 steps"
 refusalText rom (LentTooShort n) = shortText n
 refusalText rom (DivideFails p) = divideText rom p
 refusalText rom (LeftOut x) = leftOutText (x % 2 ^ 24) (x / 2 ^ 24)
+refusalText rom BadVersion = ascii "17: the recording's version is not 1"
+refusalText rom (BadLength p) = recordText (ascii "18") p (ascii "the length of the record is not 9")
+refusalText rom (Unfinished p) = recordText (ascii "19") p (ascii "the recording ends before the record does")
+refusalText rom ReplayEnded = ascii "20: the replay has ended"

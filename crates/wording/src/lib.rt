@@ -5,7 +5,7 @@ ghost use Rattle.site.specs.Costs.{noPorts};
 ghost use Rattle.listing.specs.Listing.{flowAt};
 ghost use Rattle.text.specs.Lines.{Adds};
 ghost use Rattle.wording.specs.Standing.{byteText, bytesAt, notHeldText, noCodeText, foundText, standsAt};
-ghost use Rattle.wording.specs.Refusals.{atPlace, outsideText, unknownText, cutText, readText, writeText, adjustText, divideText, entryText, followText, backOf, upwardText, shortText, groupName, leftOutText, refusalText};
+ghost use Rattle.wording.specs.Refusals.{atPlace, outsideText, unknownText, cutText, readText, writeText, adjustText, divideText, entryText, followText, backOf, upwardText, shortText, groupName, leftOutText, recordText, refusalText};
 use codes::Decoded;
 use paths::Flow;
 use refusal::Refusal;
@@ -250,6 +250,17 @@ fn left_out(l: Line, p: u32, g: u32) -> Line
     text::bytes(e, b", which this set leaves out")
 }
 
+// Of a replay; its place is a byte of the recording.
+fn recorded(l: Line, number: &[u8], p: u32, what: &[u8]) -> Line
+    ensures { λ r. ⌜ Adds l (recordText (now (number .entry)) p (now (what .entry))) r ⌝ }
+{
+    let a = text::bytes(l, number);
+    let b = text::bytes(a, b" at byte ");
+    let c = text::decimal(b, p as u64);
+    let d = text::bytes(c, b" of the recording: ");
+    text::bytes(d, what)
+}
+
 // A refusal: its number, its place, what stands there and what that means.
 pub fn refusal(l: Line, rom: &[u8], f: Refusal) -> Line
     ensures { λ r. ⌜ Adds l (refusalText (now (rom .entry)) f) r ⌝ }
@@ -276,5 +287,14 @@ pub fn refusal(l: Line, rom: &[u8], f: Refusal) -> Line
         Refusal::LentTooShort(n) => short(l, n),
         Refusal::DivideFails(p) => divide(l, rom, p),
         Refusal::LeftOut(x) => left_out(l, x % 16777216, x / 16777216),
+        Refusal::BadVersion => text::bytes(l, b"17: the recording's version is not 1"),
+        Refusal::BadLength(p) => recorded(l, b"18", p, b"the length of the record is not 9"),
+        Refusal::Unfinished(p) => recorded(
+            l,
+            b"19",
+            p,
+            b"the recording ends before the record does",
+        ),
+        Refusal::ReplayEnded => text::bytes(l, b"20: the replay has ended"),
     }
 }

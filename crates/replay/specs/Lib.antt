@@ -1,0 +1,3 @@
+pub mod Replay
+pub mod Followed
+pub mod MirrorReplay
