@@ -69,6 +69,7 @@ void test_ports(void);
 void test_runs(const char *samples);
 void test_figures(void);
 void test_replay(void);
+void test_cuts(void);
 void test_bad_input(void);
 
 #endif

@@ -515,12 +515,11 @@ uint32_t h8_way(const uint32_t *board, size_t board_n, const uint8_t *rom, size_
     return answer_n < 4 ? got : wide_group(answer, got, group);
 }
 
-/* REPLAY, byte by byte: where it stands, and the part of a record that is read. */
+/* REPLAY, byte by byte: where it stands, and the part of a record that is read, as numbers. */
 enum stage { VERSION, RECORDS, TOLD, CLOSED };
 struct standing {
-    uint32_t *regs, steps, stage, count, number, place, group, report, field;
+    uint32_t *regs, steps, stage, count, length, pc, condition, recorded, number, place, group, report, field;
     uint64_t states;
-    uint8_t part[H8_RECORD];
 };
 struct replay_board {
     const uint32_t *board;
@@ -543,14 +542,19 @@ static uint32_t step_once(const struct replay_board *b, uint32_t *regs, uint64_t
     return plain_run(b->board, b->board_n, b->rom, b->rom_n, b->ram, b->ram_n, regs, 10, 0xFFFFFFFF, 1, answer, 6);
 }
 
-static uint32_t part_long(const uint8_t *p) { return (uint32_t)p[0] << 24 | (uint32_t)p[1] << 16 | (uint32_t)p[2] << 8 | p[3]; }
+/* Where the next record begins. Steps and bytes of a record are counted by their remainder by 2^24. */
+static uint32_t record_begins(const struct standing *s)
+{
+    return H8_RECORD * (FAULT == 188 ? s->steps : s->steps % 16777216) + 1;         /* 188: any steps are counted */
+}
+
+static void no_part(struct standing *s) { s->count = s->length = s->pc = s->condition = s->recorded = 0; }
 
 static void take_record(struct standing *s, const struct replay_board *b)
 {
     uint64_t answer[6], here = FAULT == 150 ? s->states & 0xFFFFFF : s->states;     /* 150: the states wrap at 2^24 */
-    int pc = part_long(s->part + 2) != s->regs[H8_PC], condition = s->part[6] != s->regs[H8_CONDITION];
-    int states = part_long(s->part + 7) != here;
-    s->count = 0;
+    int pc = s->pc != s->regs[H8_PC], condition = s->condition != s->regs[H8_CONDITION], states = s->recorded != here;
+    no_part(s);
     s->field = pc ? H8_FIELD_PC : condition ? H8_FIELD_CONDITION : states ? H8_FIELD_STATES : H8_NO_FIELD;
     if (FAULT == 141 && condition && states && !pc)                                 /* states before the condition byte */
         s->field = H8_FIELD_STATES;
@@ -568,13 +572,21 @@ static void take_record(struct standing *s, const struct replay_board *b)
         s->steps += FAULT == 147;                                                   /* a refused step is counted */
         return;
     }
-    s->steps++;
+    s->steps = (FAULT == 189 ? s->steps : s->steps % 16777216) + 1;                 /* 189: in 32 bits */
     s->states += answer[4];
+}
+
+/* One byte more of a record: two of its length, four of PC, the condition byte, four of states. */
+static void grow_part(struct standing *s, uint8_t x)
+{
+    uint32_t *number = s->count < 2 ? &s->length : s->count < 6 ? &s->pc : s->count < 7 ? &s->condition : &s->recorded;
+    *number = number == &s->condition ? x : *number << 8 | x;
+    s->count = (FAULT == 195 ? s->count : s->count % 16777216) + 1;                 /* 195: in 32 bits */
 }
 
 static void take_byte(struct standing *s, const struct replay_board *b, uint8_t x)
 {
-    uint32_t begins = H8_RECORD * s->steps + 1, seen = FAULT == 143 ? H8_RECORD : FAULT == 148 ? 1 : 2;
+    uint32_t seen = FAULT == 143 ? H8_RECORD : FAULT == 148 ? 1 : 2, begun = s->count != 0;
     if (s->stage == TOLD)
         return;
     if (s->stage == VERSION) {
@@ -583,23 +595,23 @@ static void take_byte(struct standing *s, const struct replay_board *b, uint8_t 
             tell_halted(s, 17, 0);
         return;
     }
-    s->part[s->count++] = x;
-    if (s->steps == 1000000 && s->count == (FAULT == 144 ? H8_RECORD : 1))          /* 144: 12 at a whole record only */
+    uint32_t spent = FAULT == 187 ? s->steps == 1000000 : s->steps >= 1000000;      /* 187: 12 at 1,000,000 steps alone */
+    grow_part(s, x);
+    if (spent && (FAULT == 144 ? s->count == H8_RECORD : !begun))                   /* 144: 12 at a whole record only */
         tell_halted(s, 12, 0);
-    else if ((s->count == seen || s->count == 2) && s->count >= seen && (s->part[0] || (s->count > 1 && s->part[1] != 9)))
-        tell_halted(s, 18, begins + (FAULT == 145 ? H8_RECORD : 0));                /* 143: looked for after eleven, 148: after one */
+    else if ((s->count == seen || (s->count == 2 && seen < 2)) && s->length != (s->count == 1 ? 0 : 9))
+        tell_halted(s, 18, record_begins(s) + (FAULT == 145 ? H8_RECORD : 0));      /* 143: looked for after eleven, 148: after one */
     else if (s->count == H8_RECORD)                                                 /* 145: a record late */
         take_record(s, b);
 }
 
 /* The report at the end. */
-static void close_standing(struct standing *s, size_t file_n)
+static void close_standing(struct standing *s)
 {
-    uint32_t begins = s->stage == VERSION ? 0 : H8_RECORD * s->steps + 1;
     if (s->stage == VERSION && FAULT != 149)                                        /* 149: an empty file agrees */
         tell_halted(s, 19, 0);
     if (s->stage == RECORDS && s->count)
-        tell_halted(s, 19, FAULT == 152 ? (uint32_t)file_n : begins);               /* 152: where the file ends */
+        tell_halted(s, 19, record_begins(s) + (FAULT == 152 ? s->count : 0));       /* 152: where the file ends */
     s->stage = CLOSED;
 }
 
@@ -608,6 +620,11 @@ static uint32_t tell_standing(const struct standing *s, uint64_t *answer)
     const uint64_t told[] = {s->number, s->place, s->group, s->steps, s->states, s->report, s->field};
     memcpy(answer, told, sizeof told);
     return s->number;
+}
+
+static uint32_t tell_short(uint32_t needed, uint64_t *answer)
+{
+    return tell_standing(&(struct standing){.number = 13, .place = needed, .report = H8_HALTED}, answer);
 }
 
 static struct standing begin_standing(const struct replay_board *b, uint32_t *regs)
@@ -627,7 +644,7 @@ uint32_t h8_replay(const uint32_t *board, size_t board_n, const uint8_t *rom, si
     if (answer_n < 7)
         return 13;
     if (regs_n < 10)
-        return tell_standing(&(struct standing){.number = 13, .place = 10, .report = H8_HALTED}, answer);
+        return tell_short(10, answer);
     struct standing s = begin_standing(&b, regs);
     if (FAULT == 154 && s.number == 1 && file_n && file[0] != 1)                    /* the version before the board */
         tell_halted(&s, 17, 0);
@@ -637,8 +654,168 @@ uint32_t h8_replay(const uint32_t *board, size_t board_n, const uint8_t *rom, si
             memcpy(before, regs, sizeof before);
         take_byte(&s, &b, file[i]);
     }
-    close_standing(&s, file_n);
+    close_standing(&s);
     if (FAULT == 151 && s.report == H8_AGREED)                                      /* no step after the last record */
         memcpy(regs, before, sizeof before);
+    return tell_standing(&s, answer);
+}
+
+/* A REPLAY IN CUTS: the same, kept in the lent numbers between two calls; its registers are those numbers. */
+static uint32_t has_no_place(uint32_t number) { return number == 1 || number == 11 || number == 12 || number == 17 || number == 20; }
+
+static void read_refusal(struct standing *s, const uint32_t *told)
+{
+    uint32_t number = told[2], known = number >= 1 && number <= 20 && number != (FAULT == 175 ? 21 : 16);   /* 175: 16 is held */
+    s->number = known ? number : 1;
+    s->place = has_no_place(s->number) && FAULT != 176 ? 0 : told[3];               /* 176: a place with each */
+    if (s->number == 15) {
+        s->place = FAULT == 177 ? told[3] : told[3] % 16777216;                     /* 177: place and group as they stand */
+        s->group = FAULT == 177 ? told[4] : told[4] % 256;
+    }
+    if (FAULT == 178)                                                               /* the group is not kept */
+        s->group = 0;
+}
+
+static void read_told(struct standing *s, const uint32_t *told)
+{
+    s->report = told[0] < H8_HALTED ? told[0] : FAULT == 173 ? told[0] % 3 : H8_HALTED;         /* 173: by its remainder */
+    if (s->report == H8_DIFFERS)
+        s->field = told[1] == 1 || told[1] == 2 ? told[1] : FAULT == 174 && !told[1] ? 0 : 3;   /* 174: no field */
+    if (s->report == H8_HALTED)
+        read_refusal(s, told);
+}
+
+static void read_part(struct standing *s, const uint32_t *part)
+{
+    s->count = FAULT == 164 ? 0 : FAULT == 181 ? part[0] % H8_RECORD : part[0];     /* 164: what was read is lost, 181: by its remainder */
+    s->length = FAULT == 182 ? 0 : part[1];                                         /* 182: half a length is lost */
+    s->pc = part[2];
+    s->condition = FAULT == 180 ? part[3] : part[3] % 256;                          /* 180: as it stands */
+    s->recorded = part[4];
+}
+
+static struct standing read_numbers(uint32_t *k)
+{
+    uint32_t high = FAULT == 185 ? 0 : k[FAULT == 184 ? 12 : 11], low = k[FAULT == 184 ? 11 : 12];          /* 185: 32 bits are kept */
+    struct standing s = {.regs = k, .steps = k[10], .states = (uint64_t)high << 32 | low, .report = H8_AGREED};
+    k[H8_CONDITION] = FAULT == 179 ? k[H8_CONDITION] : k[H8_CONDITION] % 256;       /* 179: as it stands */
+    s.stage = k[13] < CLOSED ? k[13] : FAULT == 172 ? k[13] % 4 : CLOSED;           /* 172: by its remainder */
+    if (s.stage == RECORDS)
+        read_part(&s, k + 14);
+    if (s.stage == TOLD)
+        read_told(&s, k + 19);
+    return s;
+}
+
+static void write_numbers(const struct standing *s, uint32_t *k)
+{
+    const uint32_t high = (uint32_t)(s->states >> 32), low = (uint32_t)s->states;
+    const uint32_t part[] = {s->count, s->length, s->pc, s->condition, s->recorded};
+    const uint32_t told[] = {s->report, s->field, s->number, FAULT == 186 ? 0 : s->place, s->group};        /* 186: the place is not kept */
+    memset(k + 10, 0, 4 * (H8_REPLAY - 10));
+    k[10] = s->steps;
+    k[11] = FAULT == 184 ? low : high;                                              /* 184: the lower number first */
+    k[12] = FAULT == 184 ? high : low;
+    k[13] = s->stage;
+    if (s->stage == RECORDS || (FAULT == 183 && s->stage == TOLD))                  /* 183: what was read stays */
+        memcpy(k + 14, part, sizeof part);
+    if (s->stage == TOLD)
+        memcpy(k + 19, told, sizeof told);
+}
+
+/* What a call comes to: the numbers are written, and the answer. */
+static uint32_t carry_on(struct standing *s, uint32_t *replay, uint64_t *answer)
+{
+    write_numbers(s, replay);
+    if (s->stage == VERSION || s->stage == RECORDS)
+        s->report = FAULT == 169 ? H8_AGREED : H8_MORE;                             /* 169: agreed before the end */
+    return tell_standing(s, answer);
+}
+
+/* 20, with nothing changed. */
+static uint32_t too_late(const struct standing *s, uint32_t *replay, uint64_t *answer)
+{
+    struct standing told = {.steps = s->steps, .states = s->states, .report = H8_HALTED, .number = 20};
+    told.place = FAULT == 168 ? record_begins(s) : 0;                               /* 168: its place is a record's */
+    if (FAULT == 170)                                                               /* nothing is counted */
+        told.steps = 0, told.states = 0;
+    write_numbers(s, replay);
+    if (FAULT == 167)                                                               /* it closes the replay */
+        replay[13] = CLOSED;
+    return tell_standing(&told, answer);
+}
+
+uint32_t h8_replay_begin(const uint32_t *board, size_t board_n, const uint8_t *rom, size_t rom_n, const uint8_t *ram, size_t ram_n,
+                         const uint32_t *regs, size_t regs_n, uint32_t *replay, size_t replay_n, uint64_t *answer, size_t answer_n)
+{
+    const struct replay_board b = {board, board_n, rom_n, ram_n, rom, (uint8_t *)(uintptr_t)ram};
+    if (answer_n < 7)
+        return 13;
+    if (FAULT == 190 && regs_n < 10)                                                /* the registers are looked at first */
+        return tell_short(10, answer);
+    if (replay_n < (FAULT == 191 ? 23 : H8_REPLAY))                                 /* 191: 23 are enough */
+        return tell_short(H8_REPLAY, answer);
+    if (regs_n < 10)
+        return tell_short(10, answer);
+    memcpy(replay, regs, 40);
+    struct standing s = begin_standing(&b, replay);
+    replay[H8_CONDITION] %= 256;
+    if (FAULT == 166 && s.stage == TOLD)                                            /* a wrong start is not carried on */
+        return write_numbers(&(struct standing){0}, replay), tell_standing(&s, answer);
+    if (FAULT == 192 && replay_n > H8_REPLAY)                                       /* writes behind the numbers */
+        replay[H8_REPLAY] = 0;
+    return carry_on(&s, replay, answer);
+}
+
+/* The faults of a delivery before it is taken: 1 if it is answered. */
+static int spoil_take(struct standing *s, size_t n)
+{
+    if (FAULT == 160 && s->stage == CLOSED && n == 0)                               /* an empty delivery after the end */
+        return 1;
+    if (FAULT == 171 && s->stage == TOLD)                                           /* a late delivery repeats what was told */
+        return 1;
+    if (FAULT == 163 && s->stage == TOLD && s->report == H8_DIFFERS)                /* it goes on after a difference */
+        s->stage = RECORDS, s->report = s->field = 0;
+    if (FAULT == 194 && n == 0)                                                     /* an empty delivery ends a record */
+        no_part(s);
+    return 0;
+}
+
+uint32_t h8_replay_take(const uint32_t *board, size_t board_n, const uint8_t *rom, size_t rom_n, uint8_t *ram, size_t ram_n,
+                        uint32_t *replay, size_t replay_n, const uint8_t *bytes, size_t n, uint64_t *answer, size_t answer_n)
+{
+    const struct replay_board b = {board, board_n, rom_n, ram_n, rom, ram};
+    if (answer_n < 7)
+        return 13;
+    if (replay_n < H8_REPLAY)
+        return tell_short(H8_REPLAY, answer);
+    struct standing s = read_numbers(replay);
+    if (spoil_take(&s, n))
+        return tell_standing(&s, answer);
+    if (s.stage == TOLD || s.stage == CLOSED)
+        return too_late(&s, replay, answer);
+    if (FAULT == 193 && begin_standing(&b, replay).stage == TOLD)                   /* the start is looked at again */
+        tell_halted(&s, 1, 0);
+    for (size_t i = 0; i < n; i++)
+        take_byte(&s, &b, bytes[i]);
+    if (FAULT == 162 && s.stage == RECORDS && s.count)                              /* 19 at a delivery */
+        tell_halted(&s, 19, record_begins(&s));
+    return carry_on(&s, replay, answer);
+}
+
+uint32_t h8_replay_end(uint32_t *replay, size_t replay_n, uint64_t *answer, size_t answer_n)
+{
+    if (answer_n < 7)
+        return 13;
+    if (replay_n < H8_REPLAY)
+        return tell_short(H8_REPLAY, answer);
+    struct standing s = read_numbers(replay);
+    if (s.stage == CLOSED || (FAULT == 165 && s.stage == TOLD))                     /* 165: no end after what was told */
+        return too_late(&s, replay, answer);
+    uint32_t was = s.stage;
+    close_standing(&s);
+    write_numbers(&s, replay);
+    if (FAULT == 161)                                                               /* the end is not kept */
+        replay[13] = was;
     return tell_standing(&s, answer);
 }

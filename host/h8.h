@@ -1,9 +1,11 @@
 /* h8.h: the H8/300H processor in proved software, for programs in C.
 
-   Seven functions over numbers and lent arrays. An array is lent as a pointer and its length in elements. The library keeps
+   Ten functions over numbers and lent arrays. An array is lent as a pointer and its length in elements. The library keeps
    nothing between calls, allocates nothing, prints nothing and calls nothing.
 
    WHAT CHANGED, the newest first. Programs that it concerns have to be compiled again with this header.
+   - New: h8_replay_begin, h8_replay_take and h8_replay_end, for a recording that arrives in cuts, with refusal 20. They concern
+     no other function.
    - New: h8_replay, which replays a run against a recording, with refusals 17, 18 and 19. It concerns no other function.
    - The board carries a port area, where a data access takes more states; THE BOARD below describes it. So the board is lent,
      as four numbers: h8_step and h8_run take it in place of `base`, h8_figure and h8_way before `rom`. It concerns every
@@ -42,6 +44,7 @@
      17   the version byte of a recording is not 1                                   0
      18   the length of a record is not 9                                            the byte where the record begins
      19   a record is unfinished, or the recording is empty                          the byte where it begins
+     20   a delivery to a replay that is over, or a second end                       0
 
    Each function also writes this number, its place and its group to the first three numbers of the lent array `answer`. The
    group is 0 with every number but 15. There it is the group of the code that is left out: 3 MOV with displacement d:24,
@@ -52,8 +55,9 @@
    written. A `regs` or a `fields` to be filled that is too short is looked for next. After these two each function's own
    order follows.
 
-   On a refusal nothing lent changes but `answer`, with these exceptions: h8_run and h8_replay keep the steps they completed,
-   and h8_figure fills its table on 2, 3, 4, 9, 10 and 15.
+   On a refusal nothing lent changes but `answer`, with these exceptions: h8_run, h8_replay and h8_replay_take keep the steps
+   they completed; the functions of a replay in cuts leave in `replay` where it stands; and h8_figure fills its table on 2, 3, 4,
+   9, 10 and 15.
 
    AN EXAMPLE: how many states a routine at 0x100 can take, on boards with ports from 0xFFFF20 on behind a bus of 8 bits.
 
@@ -228,6 +232,47 @@ enum h8_differs { H8_NO_FIELD, H8_FIELD_PC, H8_FIELD_CONDITION, H8_FIELD_STATES 
 #define H8_RECORD 11u
 uint32_t h8_replay(const uint32_t *board, size_t board_n, const uint8_t *rom, size_t rom_n, uint8_t *ram, size_t ram_n,
                    uint32_t *regs, size_t regs_n, const uint8_t *file, size_t file_n, uint64_t *answer, size_t answer_n);
+
+/* A REPLAY BETWEEN TWO CALLS. A recording that arrives in cuts is replayed as it comes: h8_replay_begin once, h8_replay_take for
+   each delivery, h8_replay_end when no more will come. However it was cut, the answer of h8_replay_end and the registers, `ram`,
+   records and states after it are those of h8_replay on the whole recording. A cut may fall anywhere, inside a record too, and a
+   delivery may be empty. Between the calls the replay is kept by the caller, in `replay`, 24 numbers:
+
+     0 to 9     the registers, as in `regs`
+     10         the records that agreed; as many steps were taken
+     11, 12     the states of these steps, upper 32 bits first
+     13         0: the version byte is awaited; 1: records; 2: a difference or a refusal was told; 3: the end was declared
+     14 to 18   with 1 there: how many bytes of the next record have come, 0 to 10, and its length, PC, condition byte and
+                states as far as they have come
+     19 to 23   with 2 there: report and field, and the number, place and group of a refusal, as in the answer
+
+   and 0 where nothing is said. The caller lends the same numbers again, and the memories and the board as they were. What the
+   three functions leave there they read back as it was. Any other numbers are answered too: a number of 13 over 3 is read as 3,
+   of 19 over 2 as 2, of 20 that is no field as H8_FIELD_STATES, of 21 that is no refusal's as 1; condition bytes by their
+   remainder by 256, of refusal 15 the place by 2^24 and the group by 2^8, and 1, 11, 12, 17 and 20 have place 0. All else is
+   taken as it stands: 10 and 14 are counted on from their remainder by 2^24, the length is looked at when 14 becomes 2 and the
+   record compared when it becomes 11, and 12 is said from 1,000,000 records on. What was read so is written back so, with 20 too.
+
+   answer, 7 numbers, as h8_replay's; the report is H8_MORE, and 0 is returned, while all agreed so far and more may come. The
+   other reports come as soon as the byte that decides them; bytes after it, in the same delivery, are passed over. 19 comes from
+   h8_replay_end alone.
+
+   h8_replay_begin looks for: 13 (answer_n below 7: nothing written), 13 (replay_n below 24: place 24), 13 (regs_n below 10:
+   place 10), 1 (for a condition byte over 255 too, of which the replay holds the remainder by 256). After 1 the replay is over,
+   and h8_replay_end repeats it.
+   h8_replay_take looks for: 13 (answer_n below 7), 13 (replay_n below 24: place 24), 20 (a difference or a refusal was told, or
+   the end declared; for an empty delivery too: nothing changes); then as h8_replay in the file. A wrong board is 1 where a step
+   is to be taken on it.
+   h8_replay_end looks for: 13 (answer_n below 7), 13 (replay_n below 24: place 24), 20 (the end was declared before); then 19,
+   or it repeats the difference or the refusal, or all agreed. */
+enum h8_replay_number {
+    H8_REPLAY_RECORDS = 10, H8_REPLAY_STATES = 11, H8_REPLAY_STAGE = 13, H8_REPLAY_READ = 14, H8_REPLAY_TOLD = 19, H8_REPLAY = 24
+};
+uint32_t h8_replay_begin(const uint32_t *board, size_t board_n, const uint8_t *rom, size_t rom_n, const uint8_t *ram, size_t ram_n,
+                         const uint32_t *regs, size_t regs_n, uint32_t *replay, size_t replay_n, uint64_t *answer, size_t answer_n);
+uint32_t h8_replay_take(const uint32_t *board, size_t board_n, const uint8_t *rom, size_t rom_n, uint8_t *ram, size_t ram_n,
+                        uint32_t *replay, size_t replay_n, const uint8_t *bytes, size_t n, uint64_t *answer, size_t answer_n);
+uint32_t h8_replay_end(uint32_t *replay, size_t replay_n, uint64_t *answer, size_t answer_n);
 
 /* The figure of the routine at `entry`: the largest total of states over all paths from there to an RTS. On them an access at
    an address in the code counts what its place costs. Where an address from a register will lie is not known, so an access

@@ -11,6 +11,7 @@ pub fn show_help() {
                                  runs from ENTRY; prints registers, flags, steps, states and why it ended
   h8 replay ROM ENTRY RECORDING --ram BASE LENGTH [--er N VALUE]...
                                  runs from ENTRY beside a recording; says which record differs first, and in what
+                                 (with - for RECORDING, beside what comes in by a pipe)
   h8 help                        this text
 
 ROM is a file, its first byte at address 0: an even number of bytes, at most 524288.

@@ -1,4 +1,4 @@
-// h8 replay: the recording is read in blocks as long as they come, so it need not fit anywhere.
+// h8 replay: the recording is read in blocks as long as they come, from a file or a pipe, so it need not fit anywhere.
 use crate::ask::Request;
 use crate::asked;
 use crate::fault;
@@ -219,10 +219,20 @@ fn recording(q: Request, fd: i32, rom: &[u8], ram: &mut [u8], g: Given, r: Regis
     }
 }
 
+// The file, or what comes in, for a single dash.
+fn source(path: &[u8]) -> i32 {
+    if path.len() == 1 {
+        if path[0] == b'-' {
+            return 0;
+        }
+    }
+    os::open_read(path)
+}
+
 fn opened(q: Request, rom: &[u8], ram: &mut [u8], g: Given, r: Registers) {
     let mut path = io::buffer();
     let n = os::arg(q.fourth, &mut path);
-    let fd = os::open_read(&path[..n]);
+    let fd = source(&path[..n]);
     if fd < 0 {
         file::unread(q.plain, b"RECORDING", q.fourth);
     } else {

@@ -3,3 +3,4 @@ mod Coded
 mod Stepped
 mod Figured
 mod One
+mod Carrying

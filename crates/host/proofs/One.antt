@@ -11,6 +11,7 @@ use Rattle.figure.proofs.Answered.{figured-one}
 use Rattle.host.specs.Codes.{decodeLeft, DecodeCall, untold, fields-short, decoded, Spells, EncodeCall, answer-short, unspelt, encoded}
 use Rattle.host.specs.Steps.{stepCall, runCall}
 use Rattle.host.specs.Replays.{replayCall}
+use Rattle.host.specs.Cuts.{beginCall, takeCall, endCall}
 use Rattle.host.specs.Figures as figures
 use Rattle.host.specs.Figures.{FigureCall, figured, wayCall}
 use Rattle.host.proofs.Coded.{spells-names}
@@ -58,6 +59,15 @@ run-one board rom ram regs stop budget answer = equal (runCall board rom ram reg
 
 pub replay-one : (board rom ram regs file answer : List ℕ) → One (λ x. x ≡ replayCall board rom ram regs file answer)
 replay-one board rom ram regs file answer = equal (replayCall board rom ram regs file answer)
+
+pub begin-one : (board rom ram regs replay answer : List ℕ) → One (λ x. x ≡ beginCall board rom ram regs replay answer)
+begin-one board rom ram regs replay answer = equal (beginCall board rom ram regs replay answer)
+
+pub take-one : (board rom ram replay bytes answer : List ℕ) → One (λ x. x ≡ takeCall board rom ram replay bytes answer)
+take-one board rom ram replay bytes answer = equal (takeCall board rom ram replay bytes answer)
+
+pub end-one : (replay answer : List ℕ) → One (λ x. x ≡ endCall replay answer)
+end-one replay answer = equal (endCall replay answer)
 
 pub figure-one : (board rom : List ℕ) (entry : ℕ) (table answer : List ℕ) → One (FigureCall board rom entry table answer)
 figure-one board rom entry table answer x y (figures.answer-short h) (figures.answer-short k) = refl

@@ -6,3 +6,4 @@ pub mod MirrorCodes
 pub mod MirrorSteps
 pub mod Replays
 pub mod MirrorReplays
+pub mod Cuts

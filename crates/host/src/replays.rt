@@ -16,7 +16,7 @@ use refusal::Refusal;
 use replay::Ended;
 use replay::Report;
 
-fn tell_report(t: Report, steps: u32, states: u64, answer: &mut [u64]) -> u32
+pub fn tell_report(t: Report, steps: u32, states: u64, answer: &mut [u64]) -> u32
     requires { ⌜ 7 ≤ length (now answer) ⌝ }
     ensures { λ n. ⌜ noted n (now (answer .exit)) ≡ tell (replayAnswer t steps states) (now (answer .entry)) ⌝ }
 {

@@ -1,3 +1,4 @@
 pub mod Replay
 pub mod Followed
+pub mod Cuts
 pub mod MirrorReplay

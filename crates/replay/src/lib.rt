@@ -5,6 +5,7 @@ use refusal::Refusal;
 use registers::Registers;
 ghost use mathlib.Core.Path.{_≡_};
 ghost use Prim.Native.Nat.{_*_, _%_, _^_, _≤_, _<_};
+ghost use Rattle.replay.specs.Cuts.{saidOf, arrived, deliverOf};
 ghost use Rattle.replay.specs.MirrorReplay.{overOf, freshOf, aheadOf, missingOf, passedOf};
 ghost use Rattle.replay.specs.Replay.{fieldNumber, byteTaken, firstOf, nothing, longer, grown, begins, ended, endOf, endedOf, moment, staged, taken, compared, held, stageTaken, fed, begun, replayed, replayOf};
 
@@ -61,6 +62,17 @@ pub struct Standing {
 pub struct Ended {
     pub replay: Standing,
     pub report: Report,
+}
+
+// What a delivery came to.
+pub enum Said {
+    More,
+    Final(Report),
+}
+
+pub struct Delivered {
+    pub replay: Standing,
+    pub said: Said,
 }
 
 fn longer_by(n: u32, x: u8) -> u32
@@ -341,7 +353,7 @@ pub fn feed(k: Standing, b: Board, rom: &[u8], ram: &mut [u8], bytes: &[u8]) -> 
     from_record(q, b, rom, ram, &bytes[m..])
 }
 
-// Before the first byte: 1 is looked for here.
+// Before the first byte: 1 is looked for here. Nothing of the memories is kept: each delivery is lent them again.
 pub fn begin(b: Board, rom: &[u8], ram: &[u8], r: Registers) -> Standing
     ensures { λ q. ⌜ q ≡ begun b (now (rom .entry)) (now (ram .entry)) r ⌝ }
 {
@@ -387,6 +399,36 @@ pub fn end(k: Standing) -> Ended
         replay: at(k, Stage::Closed),
         report: t,
     }
+}
+
+// What a stage says before the end is declared.
+pub fn said_of(g: Stage) -> Said
+    ensures { λ s. ⌜ s ≡ saidOf g ⌝ }
+{
+    match g {
+        Stage::Version => Said::More,
+        Stage::Records(_) => Said::More,
+        Stage::Told(t) => Said::Final(t),
+        Stage::Closed => Said::Final(Report::Halted(Refusal::ReplayEnded)),
+    }
+}
+
+// What has arrived of the recording since the delivery before it.
+pub fn deliver(k: Standing, b: Board, rom: &[u8], ram: &mut [u8], bytes: &[u8]) -> Delivered
+    ensures { λ q. ⌜ arrived q (now (ram .exit)) ≡ deliverOf b (now (rom .entry)) (moment k (now (ram .entry))) (now (bytes .entry)) ⌝ }
+{
+    let g = k.stage;
+    let late = over(g);
+    if late {
+        return Delivered {
+            replay: k,
+            said: Said::Final(Report::Halted(Refusal::ReplayEnded)),
+        };
+    }
+    let q = feed(k, b, rom, ram, bytes);
+    let h = q.stage;
+    let s = said_of(h);
+    Delivered { replay: q, said: s }
 }
 
 // The whole recording, from given registers.

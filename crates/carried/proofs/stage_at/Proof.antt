@@ -1,0 +1,9 @@
+use borrow.Author.Tests.{ne-eqb}
+use borrow.Author.Needs.{needs}
+use Rattle.carried.proofs.stage_at.Statement.{statement}
+use Rattle.carried.proofs.stage_at.Tie as tie
+
+pub stage-at-spec : {M : Type 1} → statement M
+stage-at-spec =
+    tie.close
+    (tie.spec (λ c. rw (c .match .keys1)) (λ c. rw (c .match .keys2)) (λ c. rw (c .match .keys3)) (λ c. search (needs, ne-eqb)))

@@ -1,0 +1,9 @@
+use borrow.Author.Needs.{needs}
+use Rattle.host.proofs.cuts.begin_lent.Statement.{statement}
+use Rattle.host.proofs.cuts.begin_lent.Tie as tie
+
+pub begin-lent-spec : {M : Type 1} → statement M
+begin-lent-spec =
+    tie.close
+    (tie.spec (λ c κs. search needs) (λ c κs. search needs) (λ c κs. search needs) (λ c. search needs) (λ c. search needs)
+    (λ c. rw (← c .before .before .before .before .before .before .before .before .start .ensures, ← c .before .before .before .before .before .before .before .said-of .ensures) (c .before .before .before .before .carry .ensures)))

@@ -1,0 +1,17 @@
+use borrow.Author.Tests.{lt-ltb, le-ltb}
+use mathlib.Core.Path.{refl}
+use Rattle.host.specs.Cuts.{endCall}
+use Rattle.host.proofs.Carrying.{carry-on}
+use borrow.Author.Needs.{needs}
+use Rattle.host.proofs.cuts.h8_replay_end.Statement.{statement}
+use Rattle.host.proofs.cuts.h8_replay_end.Tie as tie
+
+pub h8-replay-end-spec : {M : Type 1} → statement M
+unfolding endCall
+h8-replay-end-spec =
+    tie.close
+    (tie.spec (λ c. rw (lt-ltb _ _ (c .if1 .taken)))
+    (λ c κs. search needs) (λ c. search needs)
+    (λ c. rw (le-ltb _ _ (c .before .before .before .before .before .if1 .left), lt-ltb _ _ (c .before .before .before .before .if2 .taken)) (carry-on (c .before .before .too-short .ensures) refl))
+    (λ c κs. search needs) (λ c. search needs) (λ c. search needs)
+    (λ c. rw (le-ltb _ _ (c .before .before .before .before .before .before .before .before .if1 .left), le-ltb _ _ (c .before .before .before .before .before .before .before .if2 .left)) (c .before .before .before .before .end-lent .ensures)))
