@@ -92,7 +92,50 @@ static void figure(uint32_t entry, const char *gap)
     printf(fits ? "left %llu\n" : "missing %llu\n", (ull)(fits ? states - answer[3] : answer[3] - states));
 }
 
-static void way(uint32_t entry)
+/* The routine that is called at p; H8_NONE where nothing is called. */
+static uint32_t called_at(uint32_t p)
+{
+    struct decoded d;
+    const uint32_t *f = d.fields;
+    if (decode(rom + p, rom_n - p, &d) || (f[H8_KIND] != H8_BSR && (f[H8_KIND] != H8_JSR || f[H8_FORM] != H8_DIRECT)))
+        return H8_NONE;
+    uint32_t by = (uint32_t)(f[H8_FORM] == H8_NEAR ? (int8_t)f[H8_VALUE] : (int16_t)f[H8_VALUE]);
+    return (f[H8_KIND] == H8_JSR ? f[H8_VALUE] : p + f[H8_LENGTH] + by) & 0xFFFFFE;
+}
+
+/* A routine that a way calls, in three lines. */
+static void print_called(uint32_t to, uint64_t *total)
+{
+    if (to == H8_NONE || to >= rom_n)
+        return;
+    *total += table[to];
+    print_place("routine", to);
+    printf("states %llu\ntotal %llu\n", (ull)table[to], (ull)*total);
+}
+
+/* The way of the routine at `entry`, by the table; where `level` is not below 0, with the routines that it calls, and each place's level. */
+static int follow(uint64_t entry, int level, uint64_t *total)
+{
+    uint64_t answer[4];
+    for (uint64_t p = entry; p != H8_NONE; p = answer[3]) {
+        uint32_t to = called_at((uint32_t)p);
+        if (level >= 0)
+            printf("level %d\n", level);
+        print_code((uint32_t)p, total);
+        printf("total %llu\n", (ull)*total);
+        if (h8_way(board, H8_BOARD, rom, rom_n, table, rom_n, (uint32_t)p, answer, 4)) {
+            print_refusal(answer);
+            return 0;
+        }
+        if (level < 0)
+            print_called(to, total);
+        else if (to != H8_NONE && !follow(to, level + 1, total))
+            return 0;
+    }
+    return 1;
+}
+
+static void way(uint32_t entry, int deep)
 {
     uint64_t answer[4], total = 0;
     if (h8_figure(board, H8_BOARD, rom, rom_n, entry, table, rom_n, answer, 4)) {
@@ -100,15 +143,8 @@ static void way(uint32_t entry)
         return;
     }
     uint64_t longest = answer[3];
-    for (uint64_t p = entry; p != H8_NONE; p = answer[3]) {
-        print_code((uint32_t)p, &total);
-        printf("total %llu\n", (ull)total);
-        if (h8_way(board, H8_BOARD, rom, rom_n, table, rom_n, (uint32_t)p, answer, 4)) {
-            print_refusal(answer);
-            return;
-        }
-    }
-    printf("figure %llu\n", (ull)longest);
+    if (follow(entry, deep ? 0 : -1, &total))
+        printf("figure %llu\n", (ull)longest);
 }
 
 static void list(uint32_t from, uint32_t to)
@@ -131,12 +167,15 @@ static void list(uint32_t from, uint32_t to)
 /* What a run is asked. */
 struct asked {
     uint32_t regs[H8_REGISTERS], length, stop, budget;
+    int routine;
 };
 
 static struct asked asked(uint32_t entry, char **word, int words)
 {
     struct asked a = {.stop = H8_NONE, .budget = H8_BUDGET_MAX};
     a.regs[H8_PC] = entry;
+    for (int i = 0; i < words; i++)
+        a.routine |= !strcmp(word[i], "--routine");
     for (int i = 0; i + 1 < words; i++) {
         if (!strcmp(word[i], "--ram"))
             a.length = number(word[i + 2]);
@@ -160,17 +199,26 @@ static void print_registers(const uint32_t *regs)
         printf("%s %u\n", flags[i], regs[H8_CONDITION] >> (7 - i) & 1);
 }
 
+static uint32_t ran(struct asked *a, uint64_t answer[H8_ROUTINE_ANSWER])
+{
+    memset(ram, 0, sizeof ram);
+    if (a->routine)
+        return h8_routine(board, H8_BOARD, rom, rom_n, ram, a->length, a->regs, H8_REGISTERS, a->stop, a->budget, answer, H8_ROUTINE_ANSWER);
+    return h8_run(board, H8_BOARD, rom, rom_n, ram, a->length, a->regs, H8_REGISTERS, a->stop, a->budget, answer, 6);
+}
+
 static void run(struct asked a)
 {
-    static const char *const ended[3] = {"stop", "budget", "refusal"};
-    uint64_t answer[6];
-    memset(ram, 0, sizeof ram);
-    uint32_t refusal = h8_run(board, H8_BOARD, rom, rom_n, ram, a.length, a.regs, H8_REGISTERS, a.stop, a.budget, answer, 6);
+    static const char *const ended[] = {"stop", "budget", "refusal", "return", "ninth", "elsewhere"};
+    uint64_t answer[H8_ROUTINE_ANSWER];
+    uint32_t refusal = ran(&a, answer);
     if (refusal == 1 || refusal == 12) {    /* nothing ran: the arguments are wrong */
         print_refusal(answer);
         return;
     }
     printf("steps %llu\nstates %llu\nended %s\n", (ull)answer[3], (ull)answer[4], ended[answer[5]]);
+    if (answer[5] == H8_ELSEWHERE)
+        print_place("kept", answer[H8_KEPT + answer[H8_KEPT_COUNT] - 1]);
     if (refusal)
         print_refusal(answer);
     print_registers(a.regs);
@@ -250,7 +298,7 @@ static void answer_words(char **word, int words)
     if (!strcmp(word[0], "figure"))
         figure(number(third), fourth);
     else if (!strcmp(word[0], "way"))
-        way(number(third));
+        way(number(third), fourth && !strcmp(fourth, "--deep"));
     else if (!strcmp(word[0], "list"))
         list(number(third), fourth ? number(fourth) : UINT32_MAX);
     else if (!strcmp(word[0], "replay"))
@@ -330,8 +378,8 @@ static void append_left_out(void)
     append(code, 2 * (1 + (int)below((uint32_t)left_out_length(k) / 2)));
 }
 
-/* One piece of a random ROM: mostly an instruction that goes on, some branches forward, few back, a return, any word, or what the set
-   leaves out. */
+/* One piece of a random ROM: mostly an instruction that goes on, some branches and calls forward, few back, a return, any word, or what the
+   set leaves out. */
 static void append_piece(void)
 {
     uint32_t die = below(40);
@@ -348,6 +396,8 @@ static void append_piece(void)
         append((uint8_t[]){(uint8_t)(0x40 + below(16)), (uint8_t)below(256)}, 2);
     else if (die >= 38)
         append_form(some_product(), 0);
+    else if (die >= 31)
+        append((uint8_t[]){0x55, (uint8_t)(2 * below(12))}, 2);
     else if (form < ONWARD || die < 13)
         append_form(form, is_branch(form) ? 2 * below(12) : below(2) ? 0xEF10 + below(64) : below(1u << 30));
 }
@@ -385,6 +435,10 @@ static void print_questions(const char *name, int k)
     printf("$ h8 run %s %u --ram 0xffef10 %u --budget %u --er %u 0x%x --er %u 0xffef%02x --er 7 0xffef%02x --stop %u %s--plain\n", name,
            entry, length, 1 + below(50), below(3), below(1u << 31), 3 + below(4), 0x10 + below(64), 0x10 + below(128), 2 * below(40),
            some_port(length));
+    printf("$ h8 run %s %u --ram 0xffef10 %u --er 1 0x%x --er 7 0xffef%02x --routine %s--plain\n", name, entry, length, 2 * below(40),
+           0x10 + below(128), some_port(length));
+    if (k % 2 == 0)
+        printf("$ h8 way %s %u --deep --plain\n", name, entry);
     if (k % 4 == 0 && rom_n)
         printf("$ h8 list %s %s--plain\n", name, some_port(128));
 }

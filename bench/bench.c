@@ -284,7 +284,8 @@ static void runs(void) { test_runs(samples); }
 static const struct { const char *part; void (*run)(void); } parts[] = {
     {"reference", test_reference}, {"marked", test_marked}, {"codes", test_codes}, {"encode", test_encode},
     {"steps", test_steps}, {"bytes", test_bytes}, {"bits", test_bits}, {"left", test_left_out}, {"limits", test_limits}, {"runs", runs},
-    {"figures", test_figures}, {"ports", test_ports}, {"replay", test_replay}, {"cuts", test_cuts}, {"bad", test_bad_input},
+    {"figures", test_figures}, {"calls", test_calls}, {"routine", test_routine}, {"ports", test_ports}, {"replay", test_replay},
+    {"cuts", test_cuts}, {"bad", test_bad_input},
 };
 
 static int asked_for(const char *part, int argc, char **argv)

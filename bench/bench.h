@@ -53,6 +53,15 @@ struct state {
 struct outcome compare_step(const struct state *s);
 struct area area_of(const struct state *s);
 const char *refused_code(int answer);       /* what decode's 3, 4 or 15 says of the bytes */
+
+/* Figure and way of a listing of at most ENUMERATED bytes, from every place, against the enumeration and the table of levels; h8_way from a
+   place by a table, upward to the return, so that the states add up; and a run of a routine by the library and by the model, compared whole:
+   afterwards b->ram and regs are as it left them. */
+void compare_table(const uint8_t *code, uint32_t n, struct area area);
+void follow(const uint8_t *rom, uint32_t n, struct area area, uint32_t entry, const uint64_t *table);
+struct routine compare_routine(const struct board *b, uint32_t regs[10], uint32_t stop, uint32_t budget);
+
+void show_listing(const uint8_t *rom, uint32_t n);
 void show_code(const uint8_t *rom, size_t rom_n, uint32_t pc);
 void show_registers(const char *title, const uint32_t regs[10]);
 
@@ -68,6 +77,8 @@ void test_limits(void);
 void test_ports(void);
 void test_runs(const char *samples);
 void test_figures(void);
+void test_calls(void);
+void test_routine(void);
 void test_replay(void);
 void test_cuts(void);
 void test_bad_input(void);

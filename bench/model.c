@@ -777,3 +777,57 @@ struct ran model_run(const struct board *b, uint32_t regs[10], uint32_t stop, ui
         r.states += o.states;
     }
 }
+
+/* One step of the mode. At a return with an address kept, and at a call with eight kept, the step is made on copies of registers and memory,
+   which are thrown away if the run ends there. What is kept is what the call left on the stack. */
+static int routine_step(const struct board *b, uint32_t regs[10], struct routine *r)
+{
+    static uint8_t ram[H8_RAM_MAX];
+    uint32_t after[10];
+    struct board copy = *b;
+    struct decoded d;
+    uint32_t pc = regs[H8_PC], kind = pc < b->rom_n && decode(b->rom + pc, b->rom_n - pc, &d) == 0 ? d.fields[H8_KIND] : H8_NOP;
+    int calls = kind == H8_BSR || kind == H8_JSR, apart = (calls && r->count == 8) || (kind == H8_RTS && r->count > 0);
+    if (apart) {
+        memcpy(ram, b->ram, b->ram_n);
+        copy.ram = ram;
+    }
+    memcpy(after, regs, sizeof after);
+    struct outcome o = model_step(&copy, after);
+    if (o.number)
+        return r->number = o.number, r->place = o.place, r->group = o.group, r->ending = H8_REFUSED, 0;
+    if (calls && r->count == 8)
+        return r->ending = H8_NINTH, 0;
+    if (apart && after[H8_PC] != r->kept[r->count - 1])
+        return r->ending = H8_ELSEWHERE, 0;
+    memcpy(regs, after, sizeof after);
+    r->steps++;
+    r->states += o.states;
+    if (calls) {
+        const uint8_t *top = b->ram + (low24(after[7]) & ~1u) - b->base, *low = b->ram + (low24(after[7] + 2) & ~1u) - b->base;
+        r->kept[r->count++] = (uint32_t)top[1] << 16 | (uint32_t)low[0] << 8 | low[1];
+        r->deepest = r->count > r->deepest ? r->count : r->deepest;
+    }
+    if (kind == H8_RTS && !apart)
+        return r->ending = H8_RETURNED, 0;
+    if (kind == H8_RTS)
+        r->kept[--r->count] = 0;
+    return 1;
+}
+
+struct routine model_routine(const struct board *b, uint32_t regs[10], uint32_t stop, uint32_t budget)
+{
+    struct routine r = {.ending = H8_REFUSED};
+    if (budget > 1000000)
+        return r.number = 12, r;
+    if (!model_board_good(b) || regs[H8_PC] % 2 || regs[H8_PC] >= 16777216 || regs[H8_CONDITION] > 255)
+        return r.number = 1, r;
+    for (;;) {
+        if (regs[H8_PC] == stop)
+            return r.ending = H8_STOPPED, r;
+        if (r.steps == budget)
+            return r.ending = H8_SPENT, r;
+        if (!routine_step(b, regs, &r))
+            return r;
+    }
+}

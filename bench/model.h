@@ -30,9 +30,19 @@ struct ran {
     int ending;                             /* enum h8_ending */
 };
 
+/* A run of one routine: document 02's mode that keeps pushed addresses. */
+struct routine {
+    uint32_t number, place, group;
+    uint64_t steps, states;
+    int ending;                             /* enum h8_ending */
+    uint32_t count, kept[8];                /* in the order pushed */
+    uint32_t deepest;                       /* how many were kept at most */
+};
+
 void model_start(void);                                             /* after decoder_start */
 struct outcome model_step(const struct board *b, uint32_t regs[10]); /* changes regs and ram only if done */
 struct ran model_run(const struct board *b, uint32_t regs[10], uint32_t stop, uint32_t budget);
+struct routine model_routine(const struct board *b, uint32_t regs[10], uint32_t stop, uint32_t budget);
 int model_board_good(const struct board *b);
 struct area no_ports(uint32_t at);                                  /* an empty area there */
 

@@ -831,8 +831,8 @@ uint32_t plain_run(const uint32_t *board, size_t board_n, const uint8_t *rom, si
     return m.number;
 }
 
-/* THE FIGURE. What a listing's line does to a path: goes on, jumps, may do either, ends, or can't be followed. */
-enum { GOES_ON, JUMPS, EITHER, ENDS, STOPS };
+/* THE FIGURE. What a listing's line does to a path: goes on, jumps, may do either, calls and goes on, ends, or can't be followed. */
+enum { GOES_ON, JUMPS, EITHER, CALLS, ENDS, STOPS };
 struct line {
     int kind;
     uint32_t next, target, states, number;
@@ -859,6 +859,10 @@ ALWAYS struct line at_16(const struct ports *k, const uint8_t *c, uint32_t p, ui
 ALWAYS struct line at_24(const struct ports *k, const uint8_t *c, uint32_t p, uint32_t left, uint32_t length, uint32_t states, int bits)
 {
     return left < length ? stops(4) : on(p, left, length, states + own_place(k, (uint32_t)c[1] << 16 | (uint32_t)c[2] << 8 | c[3], bits));
+}
+ALWAYS struct line calls(const struct ports *k, uint32_t next, uint32_t target, uint32_t states)
+{
+    return (struct line){CALLS, next, target & 0xFFFFFE, states + 2 * dear_word(k), 0};
 }
 ALWAYS struct line branch(uint32_t next, uint32_t target, uint32_t digit, uint32_t states)
 {
@@ -902,9 +906,13 @@ static struct line line_5(const struct ports *k, const uint8_t *c, uint32_t p, u
         return branch(p + 4, p + 4 + (uint32_t)(int32_t)(int16_t)(c[2] << 8 | c[3]), c[1] >> 4, 6);
     case 0x5A: return left < 4 ? stops(4) : branch(p, (uint32_t)c[1] << 16 | (uint32_t)c[2] << 8 | c[3], 0, 6);
     case 0x59: case 0x5D: return stops(c[1] & 0x8F ? 3 : 9);
-    case 0x5C: return stops(c[1] ? 3 : left < 4 ? 4 : 9);
-    case 0x5E: return stops(left < 4 ? 4 : 9);
-    case 0x55: case 0x5B: case 0x5F: return stops(9);
+    case 0x55: return calls(k, p + 2, p + 2 + (uint32_t)(int32_t)(int8_t)c[1], 8);
+    case 0x5C:
+        if (c[1] || left < 4)
+            return stops(c[1] ? 3 : 4);
+        return calls(k, p + 4, p + 4 + (uint32_t)(int32_t)(int16_t)(c[2] << 8 | c[3]), 10);
+    case 0x5E: return left < 4 ? stops(4) : calls(k, p + 4, (uint32_t)c[1] << 16 | (uint32_t)c[2] << 8 | c[3], 10);
+    case 0x5B: case 0x5F: return stops(9);
     default: return stops(3);
     }
 }
@@ -979,24 +987,49 @@ ALWAYS struct line look(const struct ports *k, const uint8_t *rom, uint32_t rom_
     }
 }
 
-struct figures { uint64_t figure, low; };
-ALWAYS struct figures row_at(const uint64_t *table, uint32_t rom_n, uint32_t q)
+/* A row while it is reckoned is one number, the lowest forbidden place above the figure, which is held at one more than the largest that is
+   told. So a place's two numbers hold two levels by turns: this one's, and that of one call less. */
+enum { LEVELS = 8, OVER = 1000000001, FIGURE_BITS = 30 };
+ALWAYS uint64_t row_of(uint64_t figure, uint64_t low) { return low << FIGURE_BITS | figure; }
+ALWAYS uint64_t figure_in(uint64_t row) { return row & ((1u << FIGURE_BITS) - 1); }
+ALWAYS uint64_t low_in(uint64_t row) { return row >> FIGURE_BITS; }
+ALWAYS uint64_t row_at(const uint64_t *table, uint32_t rom_n, uint32_t level, uint32_t q)
 {
-    return q < rom_n ? (struct figures){table[q], table[q + 1]} : (struct figures){0, q};
+    return q < rom_n ? table[q + level % 2] : row_of(0, q);
 }
-ALWAYS struct figures through(struct figures a, struct figures b, uint32_t states)
-{
-    uint64_t low = a.low < b.low ? a.low : b.low, most = a.figure > b.figure ? a.figure : b.figure;
-    return (struct figures){low == H8_NONE ? states + most : 0, low};
-}
-ALWAYS struct figures reckon(const uint64_t *table, uint32_t rom_n, uint32_t p, struct line l)
+ALWAYS uint64_t least(uint64_t a, uint64_t b) { return a < b ? a : b; }
+ALWAYS uint64_t through(uint64_t low, uint64_t total) { return low == H8_NONE ? row_of(least(total, OVER), low) : row_of(0, low); }
+ALWAYS uint64_t reckon(const uint64_t *table, uint32_t rom_n, uint32_t level, uint32_t p, struct line l)
 {
     uint32_t a = l.kind == JUMPS ? l.target : l.next, b = l.kind == GOES_ON ? l.next : l.target;
     if (l.kind == ENDS)
-        return (struct figures){l.states, H8_NONE};
-    if (l.kind == STOPS || a <= p || b <= p)
-        return (struct figures){0, p};
-    return through(row_at(table, rom_n, a), row_at(table, rom_n, b), l.states);
+        return row_of(l.states, H8_NONE);
+    if (l.kind == STOPS || (l.kind == CALLS && level == 0))
+        return row_of(0, p);
+    if (l.kind == CALLS) {
+        uint64_t routine = row_at(table, rom_n, level - 1, l.target), after = row_at(table, rom_n, level, l.next);
+        return through(least(low_in(routine), low_in(after)), l.states + figure_in(routine) + figure_in(after));
+    }
+    if (a <= p || b <= p)
+        return row_of(0, p);
+    uint64_t x = row_at(table, rom_n, level, a), y = row_at(table, rom_n, level, b);
+    return through(least(low_in(x), low_in(y)), l.states + (figure_in(x) > figure_in(y) ? figure_in(x) : figure_in(y)));
+}
+/* Every place with no call left, then with one, and so up to eight; then the rows as they are told. Answers the entry's row before that. */
+static uint64_t fill(const struct ports *k, const uint8_t *rom, uint32_t n, uint32_t entry, uint64_t *table)
+{
+    for (uint32_t level = 0; level <= LEVELS; level++)
+        for (uint32_t p = n; p > 0;) {
+            p -= 2;
+            table[p + level % 2] = reckon(table, n, level, p, look(k, rom, n, p));
+        }
+    uint64_t row = table[entry + LEVELS % 2];
+    for (uint32_t p = 0; p < n; p += 2) {
+        uint64_t x = table[p + LEVELS % 2], over = figure_in(x) == OVER;
+        table[p] = over ? 0 : figure_in(x);
+        table[p + 1] = over ? p : low_in(x);
+    }
+    return row;
 }
 /* Why a forbidden place is forbidden. */
 static uint32_t why(const uint8_t *rom, uint32_t rom_n, uint64_t place)
@@ -1005,7 +1038,7 @@ static uint32_t why(const uint8_t *rom, uint32_t rom_n, uint64_t place)
     if (place >= rom_n || place % 2)
         return 2;
     l = look(&(struct ports){0}, rom, rom_n, (uint32_t)place);      /* its states don't matter */
-    return l.kind == STOPS ? l.number : 10;
+    return l.kind == STOPS ? l.number : l.kind == CALLS ? 16 : 10;
 }
 
 static uint32_t told(uint64_t *answer, uint64_t number, uint64_t place, uint64_t fourth)
@@ -1047,15 +1080,17 @@ uint32_t plain_figure(const uint32_t *board, size_t board_n, const uint8_t *rom,
     bad = take_ports(&k, board, board_n) ? bad_lent(&k, rom_n, entry, table_n, answer) : told(answer, 1, 0, 0);
     if (bad)
         return bad;
-    for (uint32_t p = n; p > 0;) {
-        p -= 2;
-        struct figures r = reckon(table, n, p, look(&k, rom, n, p));
-        table[p] = r.figure;
-        table[p + 1] = r.low;
-    }
-    if (table[entry + 1] != H8_NONE)
-        return told_forbidden(rom, n, table[entry + 1], answer);
-    return told(answer, 0, 0, table[entry]);
+    uint64_t row = fill(&k, rom, n, entry, table);
+    if (low_in(row) != H8_NONE)
+        return told_forbidden(rom, n, low_in(row), answer);
+    return figure_in(row) == OVER ? told(answer, 22, entry, 0) : told(answer, 0, 0, figure_in(row));
+}
+
+static uint64_t figure_of(const uint64_t *table, uint32_t rom_n, uint32_t q) { return q < rom_n ? table[q] : 0; }
+/* Whatever the level. */
+static int forbidden(uint32_t p, struct line l)
+{
+    return l.kind == STOPS || ((l.kind == JUMPS || l.kind == EITHER) && l.target <= p);
 }
 
 uint32_t plain_way(const uint32_t *board, size_t board_n, const uint8_t *rom, size_t rom_n,
@@ -1069,12 +1104,14 @@ uint32_t plain_way(const uint32_t *board, size_t board_n, const uint8_t *rom, si
     bad = take_ports(&k, board, board_n) ? bad_lent(&k, rom_n, place, table_n, answer) : told(answer, 1, 0, 0);
     if (bad)
         return bad;
+    l = look(&k, rom, n, place);
+    if (table[place + 1] == place && !forbidden(place, l))          /* a total that is not told; or a call that comes to itself */
+        return told(answer, 22, place, 0);
     if (table[place + 1] != H8_NONE)
         return told_forbidden(rom, n, table[place + 1], answer);
-    l = look(&k, rom, n, place);
     if (l.kind == ENDS)
         return told(answer, 0, 0, H8_NONE);
     if (l.kind == EITHER)
-        return told(answer, 0, 0, row_at(table, n, l.target).figure > row_at(table, n, l.next).figure ? l.target : l.next);
+        return told(answer, 0, 0, figure_of(table, n, l.target) > figure_of(table, n, l.next) ? l.target : l.next);
     return told(answer, 0, 0, l.kind == JUMPS ? l.target : l.next);
 }

@@ -133,7 +133,7 @@ static uint64_t decimal(int w) { return runs(w ? plain_run : h8_run, 0, 0x24, 40
 static uint64_t copy(int w) { return runs(w ? plain_run : h8_run, 0, 0x22, 4000000 / piece); }
 static uint64_t one_by_one(int w) { return steps_alone(w ? plain_step : h8_step, 0, 2000000 / piece); }
 static uint64_t replayed(int w) { return replays(w); }
-static uint64_t branches(int w) { return figures(w ? plain_figure : h8_figure, piece == 1 ? 10 : 1); }
+static uint64_t listings(int w) { return figures(w ? plain_figure : h8_figure, piece == 1 ? 10 : 1); }
 
 static int ascending(const void *a, const void *b)
 {
@@ -178,12 +178,29 @@ static const struct { const char *sample; struct work work; } all[] = {
     {"copy", {"run, copy loop", "step", copy}},
     {"decimal", {"step, one call each, decimal counter", "step", one_by_one}},
     {"sheet", {"replay and the same run, both with reading", "step", replayed}},
-    {NULL, {"figure, 524,288 bytes of conditional branches", "place", branches}},
+    {NULL, {"figure, 524,288 bytes of conditional branches", "place", listings}},
+    {"calls", {"figure, 524,288 bytes of routines that call", "place", listings}},
 };
 enum { WORKS = sizeof all / sizeof *all };
 
+/* Eight routines in a row, each calling the next, over and over. */
+static void fill_calls(void)
+{
+    static const uint8_t calls[8] = {0x47, 0x00, 0x55, 0x04, 0x0B, 0x50, 0x54, 0x70};
+    rom_n = ROM_MAX;
+    for (size_t k = 0; k < ROM_MAX; k += 8) {
+        memcpy(rom + k, calls, 8);
+        if (k / 8 % 8 == 7)
+            rom[k + 2] = rom[k + 3] = 0;
+    }
+}
+
 static void prepare(const char *folder, size_t i)
 {
+    if (all[i].sample && !strcmp(all[i].sample, "calls")) {
+        fill_calls();
+        return;
+    }
     if (all[i].sample) {
         load(folder, all[i].sample);
         if (all[i].work.work == replayed && !recorded)

@@ -476,6 +476,105 @@ uint32_t h8_run(const uint32_t *board, size_t board_n, const uint8_t *rom, size_
     return answer_n < 6 ? got : wide_group(answer, got, group);
 }
 
+/* THE FIGURE WITH CALLS once more, slowly, with the faults of it: every place by levels. */
+enum { PLACES = H8_ROM_MAX / 2, LEVELS_MOST = 8, TOLD_MOST = 1000000000 };
+struct flow { uint32_t number, group, states, next, to, callee; uint8_t onward, jumps, calls; };
+struct reckoned { uint64_t total; uint32_t low; };
+
+static struct flow flow_at(const uint32_t *board, const uint8_t *rom, uint32_t n, uint32_t p)
+{
+    struct flow w = {0};
+    struct decoded d;
+    w.number = (uint32_t)decode(rom + p, n - p, &d);
+    if (w.number)
+        return w.group = (uint32_t)d.group, w;
+    const uint32_t *f = d.fields;
+    uint32_t kind = f[H8_KIND], direct = kind == H8_JMP || kind == H8_JSR;
+    uint32_t jump = f[H8_FORM] == H8_NEAR ? (uint32_t)(int8_t)f[H8_VALUE] : (uint32_t)(int16_t)f[H8_VALUE];
+    uint32_t dear = board[H8_AREA_BASE] < board[H8_AREA_END] ? 2 * more_of_word(board) : 0;
+    w.next = p + f[H8_LENGTH];
+    w.to = w.callee = (direct ? f[H8_VALUE] : w.next + jump) & 0xFFFFFE;
+    w.calls = kind == H8_BSR || kind == H8_JSR;
+    w.states = f[H8_STATES] + (w.calls ? dear : more_on_path(board, f));
+    w.onward = kind != H8_RTS && kind != H8_JMP && !(kind == H8_BCC && f[H8_WHICH] == 0);
+    w.jumps = kind == H8_JMP || (kind == H8_BCC && f[H8_WHICH] != 1);
+    if (direct && f[H8_FORM] != H8_DIRECT)
+        w.number = 9;
+    else if (w.jumps && w.to <= p)
+        w.number = 10;
+    else if (FAULT == 100 && w.calls && w.callee <= p)                              /* calls down are refused */
+        w.number = 10;
+    return w;
+}
+
+static struct reckoned reckoned_at(const struct reckoned *rows, uint32_t n, uint32_t p)
+{
+    return p < n ? rows[p / 2] : (struct reckoned){0, p};
+}
+
+static struct reckoned reckon_place(const struct flow *w, uint32_t n, uint32_t p, uint32_t level, const struct reckoned *rows, const struct reckoned *less)
+{
+    struct reckoned r = {0, H8_NONE}, x;
+    if (w->number)
+        return r.low = p, r;
+    if (w->calls && level == 0)                                                     /* 103: 16 at the routine, not at the call */
+        return r.low = FAULT == 103 ? w->callee : p, r;
+    if (w->onward && !(FAULT == 97 && w->calls))                                    /* 97: a path ends at a call */
+        r = reckoned_at(rows, n, w->next);
+    if (w->jumps) {
+        x = reckoned_at(rows, n, w->to);
+        r.total = x.total > r.total ? x.total : r.total;
+        r.low = x.low < r.low ? x.low : r.low;
+    }
+    if (w->calls) {
+        x = reckoned_at(less, n, w->callee);
+        if (FAULT == 112 && w->callee >= n)                                         /* a call outside is refused at its own place */
+            x.low = p;
+        if (FAULT != 96)                                                            /* the routine's cost is left out */
+            r.total += x.total;
+        if (FAULT != 98)                                                            /* its forbidden place is forgotten */
+            r.low = x.low < r.low ? x.low : r.low;
+    }
+    r.total += w->states;
+    if (FAULT == 106)                                                               /* totals of 32 bits */
+        r.total = (uint32_t)r.total;
+    else if (r.total > (uint64_t)TOLD_MOST + 1)
+        r.total = (uint64_t)TOLD_MOST + 1;
+    return r;
+}
+
+static int over(struct reckoned r) { return r.total > TOLD_MOST - (FAULT == 101); }  /* 101: from 1,000,000,000 on */
+
+static uint32_t reckon_calls(const uint32_t *board, const uint8_t *rom, uint32_t n, uint32_t entry, uint64_t *table, uint64_t *answer)
+{
+    static struct flow flows[PLACES];
+    static struct reckoned rows[2][PLACES];
+    uint32_t levels = FAULT == 95 ? LEVELS_MOST - 1 : LEVELS_MOST;                  /* 95: seven levels */
+    start();
+    for (uint32_t p = 0; p < n; p += 2)
+        flows[p / 2] = flow_at(board, rom, n, p);
+    for (uint32_t level = 0; level <= levels; level++)
+        for (uint32_t p = n; p > 0; p -= 2)
+            rows[level % 2][p / 2 - 1] = reckon_place(&flows[p / 2 - 1], n, p - 2, level, rows[level % 2], rows[1 - level % 2]);
+    struct reckoned own = rows[levels % 2][entry / 2];
+    uint32_t which = FAULT == 104 ? 1 - levels % 2 : levels % 2;                    /* 104: the rows have one level less */
+    for (uint32_t p = 0; p < n; p += 2) {
+        struct reckoned r = rows[which][p / 2];
+        int long_one = over(r) && (r.low == H8_NONE || FAULT == 102);               /* 102: 22 though something forbidden is reached */
+        table[p] = r.low != H8_NONE || long_one ? 0 : r.total;
+        table[p + 1] = long_one && FAULT != 99 ? p : r.low;                         /* 99: without its own address */
+    }
+    memset(answer, 0, 32);
+    if (over(own) && (own.low == H8_NONE || FAULT == 102))
+        return answer[1] = entry, (uint32_t)(answer[0] = 22);
+    if (own.low == H8_NONE)
+        return answer[3] = own.total, 0;
+    answer[1] = own.low;
+    answer[0] = own.low >= n ? 2 : flows[own.low / 2].number ? flows[own.low / 2].number : 16;
+    answer[2] = own.low >= n ? 0 : flows[own.low / 2].group;
+    return (uint32_t)answer[0];
+}
+
 uint32_t h8_figure(const uint32_t *board, size_t board_n, const uint8_t *rom, size_t rom_n, uint32_t entry,
                    uint64_t *table, size_t table_n, uint64_t *answer, size_t answer_n)
 {
@@ -484,12 +583,18 @@ uint32_t h8_figure(const uint32_t *board, size_t board_n, const uint8_t *rom, si
         return answer[0] = 8, answer[1] = entry, answer[2] = answer[3] = 0, 8;
     if (FAULT == 21 && answer_n >= 4 && table_n < rom_n && rom_n % 2 == 0)          /* 13 before 8 */
         return answer[0] = 13, answer[1] = rom_n, answer[2] = answer[3] = 0, 13;
-    uint64_t group = answer_n >= 4 ? answer[2] : 0, was = table_n > 3 ? table[3] : 0;
+    uint64_t group = answer_n >= 4 ? answer[2] : 0, was = table_n > 3 ? table[3] : 0, first = table_n ? table[0] : 0;
     uint32_t got = plain_figure(board, board_n, rom, rom_n, entry, table, table_n, answer, answer_n);
     if ((FAULT == 66 || FAULT == 67) && got != 1 && got != 8 && got != 13) {
         reckon_again(board, rom, (uint32_t)rom_n, table);
         answer[3] = got ? 0 : table[entry];
     }
+    if (FAULT >= 95 && FAULT <= 112 && answer_n >= 4 && got != 1 && got != 8 && got != 13)
+        got = reckon_calls(board, rom, (uint32_t)rom_n, entry, table, answer);
+    if (FAULT == 105 && got == 16)                                                  /* 16 told as 9 */
+        got = 9, answer[0] = 9;
+    if (FAULT == 107 && got == 16)                                                  /* the table is not filled */
+        table[0] = first;
     if (FAULT == 22 && got == 10)                                                   /* 10 told as 9 */
         got = 9, answer[0] = 9;
     if (FAULT == 23 && got == 0 && rom_n > 8 && rom[entry] >> 4 == 4 && entry + 4 < rom_n && table[entry + 2] > 20)
@@ -512,7 +617,106 @@ uint32_t h8_way(const uint32_t *board, size_t board_n, const uint8_t *rom, size_
     if (FAULT == 24 && got == 0 && answer_n >= 4 && answer[3] != H8_NONE && rom[place] >> 4 == 4 && rom[place] & 14
         && answer[3] != place + 2)
         answer[3] = place + 2;                                                      /* always straight on */
+    if (FAULT == 108 && got == 0 && answer_n >= 4 && rom[place] == 0x55)            /* into the routine that is called */
+        answer[3] = (place + 2 + (uint32_t)(int8_t)rom[place + 1]) & 0xFFFFFE;
+    if (FAULT == 109 && got == 22)                                                  /* told as a call too deep */
+        got = 16, answer[0] = 16;
     return answer_n < 4 ? got : wide_group(answer, got, group);
+}
+
+/* A RUN OF A ROUTINE, over plain C's step, with the faults of it. */
+struct going {
+    const uint32_t *board;
+    size_t board_n;
+    const uint8_t *rom;
+    size_t rom_n;
+    uint8_t *ram;
+    size_t ram_n;
+    uint32_t *regs, kept[H8_KEPT_MAX + 1], count, told[4];
+    uint64_t steps, states;
+};
+
+static uint32_t try_step(struct going *g, uint8_t *ram, uint32_t *regs)
+{
+    return plain_step(g->board, g->board_n, g->rom, g->rom_n, ram, g->ram_n, regs, 10, g->told, 4);
+}
+
+/* One step: -1, or the ending. */
+static int go_on(struct going *g)
+{
+    static uint8_t ram[H8_RAM_MAX];
+    uint32_t pc = g->regs[H8_PC], after[10], b0 = pc < g->rom_n ? g->rom[pc] : 0;
+    memcpy(after, g->regs, sizeof after);
+    memcpy(ram, g->ram, g->ram_n);
+    uint32_t got = try_step(g, ram, after);
+    int known = got == 0 || got == 5 || got == 6, calls = known && (b0 == 0x55 || (b0 >= 0x5C && b0 <= 0x5F)), returns = known && b0 == 0x54;
+    uint32_t most = FAULT == 113 ? H8_KEPT_MAX + 1 : H8_KEPT_MAX;                   /* 113: the ninth is executed */
+    if (FAULT == 115 && got == 0 && b0 == 0x01 && g->rom[pc + 2] == 0x6D && g->rom[pc + 3] >> 4 == 0xF)     /* PUSH.L is kept */
+        calls = 1;
+    if (FAULT == 116 && b0 == 0x5D)                                                 /* JSR @ERn is not kept */
+        calls = 0;
+    if (FAULT == 117 && returns && got == 5 && g->count)                            /* elsewhere before 5 */
+        return H8_ELSEWHERE;
+    if (FAULT == 118 && calls && got == 6 && g->count == most)                      /* ninth before 6 */
+        return H8_NINTH;
+    if (FAULT == 126 && calls && got == 6 && g->count < most)                       /* a refused call is kept */
+        g->kept[g->count++] = pc + 2;
+    if (got)
+        return H8_REFUSED;
+    if (calls && g->count == most)
+        return FAULT == 128 ? (try_step(g, g->ram, after), H8_NINTH) : H8_NINTH;    /* 128: what it pushes is written */
+    if (returns && g->count && after[H8_PC] != g->kept[g->count - 1]) {
+        if (FAULT == 114)                                                           /* a return elsewhere is made and counted */
+            try_step(g, g->ram, g->regs), g->steps++, g->states += g->told[3];
+        return H8_ELSEWHERE;
+    }
+    if (FAULT == 124 && returns && g->count && ram[(g->regs[7] & 0xFFFFFE) - g->board[H8_BASE]])    /* the first byte is looked at */
+        return H8_ELSEWHERE;
+    try_step(g, g->ram, g->regs);
+    g->steps++;
+    g->states += g->told[3];
+    if (calls)
+        g->kept[g->count++] = pc + (b0 == 0x5C || b0 == 0x5E ? 4 : 2);
+    if (returns && g->count == 0 && FAULT == 121)                                   /* the last return is not counted */
+        g->steps--, g->states -= g->told[3];
+    if (returns && g->count == 0)                                                   /* 120: it goes on */
+        return FAULT == 120 ? -1 : H8_RETURNED;
+    g->count -= (uint32_t)returns;
+    return -1;
+}
+
+uint32_t h8_routine(const uint32_t *board, size_t board_n, const uint8_t *rom, size_t rom_n, uint8_t *ram, size_t ram_n,
+                    uint32_t *regs, size_t regs_n, uint32_t stop, uint32_t budget, uint64_t *answer, size_t answer_n)
+{
+    struct going g = {board, board_n, rom, rom_n, ram, ram_n, regs, {0}, 0, {0}, 0, 0};
+    uint64_t none[6];
+    int ending = -1;
+    if (answer_n < H8_ROUTINE_ANSWER)
+        return 13;
+    memset(answer, 0, 8 * H8_ROUTINE_ANSWER);
+    answer[5] = H8_REFUSED;
+    if (regs_n < 10)
+        return answer[1] = 10, (uint32_t)(answer[0] = 13);
+    uint32_t right = plain_run(board, board_n, rom, rom_n, ram, ram_n, regs, regs_n, 0, 0, none, 6) == 0;
+    if (budget > H8_BUDGET_MAX && !(FAULT == 125 && !right))                        /* 125: 1 before 12 */
+        return (uint32_t)(answer[0] = 12);
+    if (!right)
+        return (uint32_t)(answer[0] = 1);
+    while (ending < 0)
+        if (FAULT == 122)                                                           /* the budget before the stop address */
+            ending = g.steps == budget ? H8_SPENT : regs[H8_PC] == stop ? H8_STOPPED : go_on(&g);
+        else
+            ending = regs[H8_PC] == stop ? H8_STOPPED : g.steps == budget ? H8_SPENT : go_on(&g);
+    answer[5] = (uint64_t)ending;
+    if (ending == H8_REFUSED)
+        for (int i = 0; i < 3; i++)
+            answer[i] = g.told[i];
+    answer[3] = g.steps;
+    answer[4] = g.states;
+    answer[6] = FAULT == 127 && answer[0] ? 0 : g.count;                            /* 127: a refusal keeps none */
+    for (uint32_t i = 0; i < (FAULT == 123 ? H8_KEPT_MAX : g.count) && i < H8_KEPT_MAX; i++)    /* 123: those taken off stand there still */
+        answer[7 + i] = FAULT == 119 ? g.kept[g.count - 1 - i] : g.kept[i];         /* 119: the last one first */
+    return (uint32_t)answer[0];
 }
 
 /* REPLAY, byte by byte: where it stands, and the part of a record that is read, as numbers. */
@@ -665,7 +869,7 @@ static uint32_t has_no_place(uint32_t number) { return number == 1 || number == 
 
 static void read_refusal(struct standing *s, const uint32_t *told)
 {
-    uint32_t number = told[2], known = number >= 1 && number <= 20 && number != (FAULT == 175 ? 21 : 16);   /* 175: 16 is held */
+    uint32_t number = told[2], known = number >= 1 && number <= 22 && number != (FAULT == 175 ? 23 : 21);   /* 175: 21 is held */
     s->number = known ? number : 1;
     s->place = has_no_place(s->number) && FAULT != 176 ? 0 : told[3];               /* 176: a place with each */
     if (s->number == 15) {

@@ -510,10 +510,10 @@ static const struct told_row { uint32_t stage, told[5], number, place, group, re
     {2, {2, 0, 14, 1, 1}, 14, 1, 0, H8_HALTED, 0},      {2, {2, 0, 15, 1, 7}, 15, 1, 7, H8_HALTED, 0},
     {2, {2, 0, 15, BIG, 259}, 15, 0xFFFFFF, 3, H8_HALTED, 0},
     {2, {2, 0, 15, 0x1000000, BIG}, 15, 0, 255, H8_HALTED, 0},
-    {2, {2, 0, 16, 1, 1}, 1, 0, 0, H8_HALTED, 0},       {2, {2, 0, 17, 1, 1}, 17, 0, 0, H8_HALTED, 0},
+    {2, {2, 0, 16, 1, 1}, 16, 1, 0, H8_HALTED, 0},      {2, {2, 0, 17, 1, 1}, 17, 0, 0, H8_HALTED, 0},
     {2, {2, 0, 18, 1, 1}, 18, 1, 0, H8_HALTED, 0},      {2, {2, 0, 19, BIG, 1}, 19, BIG, 0, H8_HALTED, 0},
     {2, {2, 0, 20, 1, 1}, 20, 0, 0, H8_HALTED, 0},      {2, {2, 0, 21, 1, 1}, 1, 0, 0, H8_HALTED, 0},
-    {2, {2, 0, 22, 1, 1}, 1, 0, 0, H8_HALTED, 0},       {2, {2, 0, 23, 1, 1}, 1, 0, 0, H8_HALTED, 0},
+    {2, {2, 0, 22, 1, 1}, 22, 1, 0, H8_HALTED, 0},      {2, {2, 0, 23, 1, 1}, 1, 0, 0, H8_HALTED, 0},
     {2, {2, 0, 0, 1, 1}, 1, 0, 0, H8_HALTED, 0},        {2, {2, 0, 1, 1, 1}, 1, 0, 0, H8_HALTED, 0},
     {2, {2, 0, 258, 1, 1}, 1, 0, 0, H8_HALTED, 0},      {2, {2, 0, BIG, 1, 1}, 1, 0, 0, H8_HALTED, 0},
     {0, {2, 0, 3, 1, 1}, 19, 0, 0, H8_HALTED, 0},       {1, {2, 0, 3, 1, 1}, 0, 0, 0, H8_AGREED, 0},
@@ -630,8 +630,8 @@ static void halt(struct standing *s, uint32_t number, uint32_t place, uint32_t g
 
 static void read_told(struct standing *s, const uint32_t *told)
 {
-    static const char with_place[] = "0011111111100110001100";      /* by the number, 0 to 21 */
-    uint32_t number = told[2] < 21 && told[2] != 0 && told[2] != 16 ? told[2] : 1;
+    static const char with_place[] = "00111111111001101011001";     /* by the number, 0 to 22 */
+    uint32_t number = told[2] < 23 && told[2] != 0 && told[2] != 21 ? told[2] : 1;
     if (told[0] == H8_AGREED)
         return;
     if (told[0] == H8_DIFFERS)

@@ -1,77 +1,11 @@
-/* The figure against an enumeration of every path, the longest way, and runs held against the figure. */
+/* The figure against an enumeration of every path through whole trees of calls, the longest way, and runs held against the figure. */
 #include "bench.h"
+#include "paths.h"
 #include <inttypes.h>
 #include <string.h>
 
 typedef unsigned long long ull;
-enum { MANY = 100000, WORDS = 24 };
-
-/* A walk along every path, on its own: no table, nothing remembered. */
-struct walk {
-    const uint8_t *rom;
-    uint32_t rom_n;
-    struct area area;
-    uint64_t most, paths;
-    uint32_t lowest;
-};
-
-/* What a place is forbidden for, or 0; and where paths go from it. Of a left-out code d has the group, else 0. */
-static uint32_t ways_from(const uint8_t *rom, uint32_t rom_n, uint32_t p, struct decoded *d, uint32_t to[2], int *ways)
-{
-    *ways = 0;
-    d->group = 0;
-    if (p >= rom_n)
-        return 2;
-    int answer = decode(rom + p, rom_n - p, d);
-    if (answer)
-        return (uint32_t)answer;
-    const uint32_t *f = d->fields;
-    uint32_t next = p + f[H8_LENGTH], target;
-    switch (f[H8_KIND]) {
-    case H8_RTS: return 0;
-    case H8_BSR: case H8_JSR: return 9;
-    case H8_JMP:
-        if (f[H8_FORM] != H8_DIRECT)
-            return 9;
-        to[(*ways)++] = f[H8_VALUE] & 0xFFFFFE;
-        break;
-    case H8_BCC:
-        target = next + (uint32_t)(f[H8_FORM] == H8_NEAR ? (int8_t)f[H8_VALUE] : (int16_t)f[H8_VALUE]);
-        if (f[H8_WHICH] != 0)
-            to[(*ways)++] = next;
-        if (f[H8_WHICH] != 1)
-            to[(*ways)++] = target & 0xFFFFFE;
-        break;
-    default: to[(*ways)++] = next; break;
-    }
-    for (int i = 0; i < *ways; i++)
-        if (to[i] <= p)
-            return 10;
-    return 0;
-}
-
-static void walk(struct walk *w, uint32_t p, uint64_t total)
-{
-    struct decoded d;
-    uint32_t to[2];
-    int ways;
-    if (w->paths > MANY)
-        return;
-    if (ways_from(w->rom, w->rom_n, p, &d, to, &ways)) {
-        w->paths++;
-        if (p < w->lowest)
-            w->lowest = p;
-        return;
-    }
-    total += model_most(&d, w->area);
-    if (ways == 0) {
-        w->paths++;
-        if (total > w->most)
-            w->most = total;
-    }
-    for (int i = 0; i < ways; i++)
-        walk(w, to[i], total);
-}
+enum { WORDS = 24 };
 
 /* A left-out code whole or cut at some word: how many bytes of it. */
 static uint32_t some_left_out(uint8_t code[LEFT_OUT_LENGTH])
@@ -117,15 +51,34 @@ static int some_onward(void)
     return form;
 }
 
-/* One instruction of a small listing at `at` of `n`. */
-static void some_line(uint8_t code[8], uint32_t at, uint32_t n, uint32_t branches, uint32_t trouble)
+/* How often, of 100, a listing's lines are branches, something forbidden, calls, and writes on the stack. */
+struct mix { uint32_t branches, trouble, calls, writes; };
+
+/* BSR d:8, d:16 or JSR @aa:24 to a place of the listing, mostly a later one, or just behind or far from it. */
+static void some_call(uint8_t code[8], uint32_t at, uint32_t n)
 {
-    uint32_t up = 2 * below((n - at) / 2 + 1) + (below(8) == 0);
-    static const uint8_t forbidden[][4] = {{0x55, 0x04}, {0x59, 0x10}, {0x5B, 0x20}, {0x5C, 0x00, 0, 4}, {0x5D, 0x20}, {0x5E, 0, 0, 0},
-                                           {0x5F, 0x30}, {0x54, 0x71}, {0x01, 0x02}, {0x46, 0xFC}, {0x58, 0x20, 0xFF, 0xF0}, {0x5A, 0, 0, 0}};
+    uint32_t to = below(8) ? at + 2 * below((n - at) / 2 + 1) : 2 * below(n / 2 + 1), d;
+    to += below(10) == 0;
+    switch (below(3)) {
+    case 0: code[0] = 0x55, code[1] = (uint8_t)(to - (at + 2)); break;
+    case 1: d = to - (at + 4), code[0] = 0x5C, code[2] = (uint8_t)(d >> 8), code[3] = (uint8_t)d; break;
+    default: code[0] = 0x5E, code[1] = below(30) ? 0 : (uint8_t)any(), code[3] = (uint8_t)to; break;
+    }
+}
+
+/* One instruction of a small listing at `at` of `n`. */
+static void some_line(uint8_t code[8], uint32_t at, uint32_t n, struct mix m)
+{
+    uint32_t up = 2 * below((n - at) / 2 + 1) + (below(8) == 0), branches = m.branches;
+    static const uint8_t forbidden[][4] = {{0x59, 0x10}, {0x5B, 0x20}, {0x5D, 0x20}, {0x5F, 0x30}, {0x54, 0x71}, {0x01, 0x02},
+                                           {0x46, 0xFC}, {0x58, 0x20, 0xFF, 0xF0}, {0x5A, 0, 0, 0}};
     memset(code, 0, 8);
-    if (below(100) < trouble)
-        memcpy(code, forbidden[below(12)], 4);
+    if (below(100) < m.trouble)
+        memcpy(code, forbidden[below(9)], 4);
+    else if (below(100) < m.calls)
+        some_call(code, at, n);
+    else if (below(100) < m.writes)         /* MOV.W R0,@(d:16,ER7) */
+        code[0] = 0x6F, code[1] = 0xF0, code[3] = (uint8_t)(2 * below(3));
     else if (below(100) < branches)
         code[0] = (uint8_t)(0x40 | below(16)), code[1] = (uint8_t)(below(4) ? below(9) : up);
     else if (below(100) < branches / 4)
@@ -140,18 +93,18 @@ static void some_line(uint8_t code[8], uint32_t at, uint32_t n, uint32_t branche
         build(some_onward(), (uint32_t)any(), some_operand(), (uint32_t)any(), code);
 }
 
-/* A small listing: plain instructions, branches mostly upward and short, returns, and in some something forbidden. */
-static uint32_t make_listing(uint8_t *rom)
+/* A small listing: plain instructions, branches mostly upward and short, calls, returns, and in some something forbidden. */
+static uint32_t make_listing(uint8_t *rom, struct mix m)
 {
-    uint32_t n = 2 * (1 + below(WORDS)), at = 0, trouble = below(2) ? 0 : below(12), branches = below(3) ? 30 : 90;
+    uint32_t n = 2 * (1 + below(WORDS)), at = 0;
     while (at < n) {
         struct decoded d;
         uint8_t code[LEFT_OUT_LENGTH];
         uint32_t length;
-        if (below(200) < trouble) {
+        if (below(200) < m.trouble) {
             length = some_left_out(code);
         } else {
-            some_line(code, at, n, branches, trouble);
+            some_line(code, at, n, m);
             length = decode(code, 8, &d) ? 2 : d.fields[H8_LENGTH];
         }
         for (uint32_t i = 0; i < length && at < n; i++)
@@ -164,7 +117,7 @@ static uint32_t make_listing(uint8_t *rom)
     return n;
 }
 
-static void show_listing(const uint8_t *rom, uint32_t n)
+void show_listing(const uint8_t *rom, uint32_t n)
 {
     for (uint32_t p = 0; p < n;) {
         struct decoded d;
@@ -173,64 +126,60 @@ static void show_listing(const uint8_t *rom, uint32_t n)
     }
 }
 
-static uint64_t answers[16], ends[16], most_paths;      /* of figures, and of runs: by refusal number, 0 without one */
+static uint64_t answers[24], most_paths, with_calls;     /* by refusal number, 0 without one; and of these through calls */
 
-/* The table's row and the answer for one entry. */
-static void compare_entry(const uint8_t *rom, uint32_t n, uint32_t entry, const uint64_t *table, const uint64_t *answer, uint32_t got)
+/* The table's row and the answer for one entry, by the enumeration; the table of levels must say the same. */
+static void compare_entry(const struct listing *l, uint32_t entry, const uint64_t *table, const uint64_t *answer, uint32_t got, struct total by_level)
 {
-    struct walk w = {rom, n, ports, 0, 0, H8_NONE};
-    struct decoded d;
-    uint32_t to[2], number;
-    int ways;
-    walk(&w, entry, 0);
-    number = w.lowest == H8_NONE ? 0 : ways_from(rom, n, w.lowest, &d, to, &ways);
-    uint64_t figure = number ? 0 : w.most, place = number ? w.lowest : 0, group = number ? (uint64_t)d.group : 0;
-    answers[number]++;
-    if (w.paths > most_paths)
-        most_paths = w.paths;
-    if (got != number || answer[0] != number || answer[1] != place || answer[2] != group || answer[3] != figure || table[entry] != figure
-        || table[entry + 1] != w.lowest) {
-        fail("figure differs from the enumeration of %llu paths, entry %X", (ull)w.paths, entry);
+    struct total t = enumerate(l, entry);
+    if (t.given_up)
+        t = by_level;
+    else if (t.lowest != by_level.lowest || (t.lowest == H8_NONE && t.most != by_level.most))
+        fail("the two references differ, entry %X: %llu and %llu", entry, (ull)t.most, (ull)by_level.most);
+    struct wanted w = wanted_of(l, entry, t);
+    answers[w.answer[0]]++;
+    with_calls += !w.answer[0] && l->at[entry / 2].calls;
+    most_paths = t.paths > most_paths ? t.paths : most_paths;
+    if (got != w.answer[0] || memcmp(answer, w.answer, sizeof w.answer) || table[entry] != w.row[0] || table[entry + 1] != w.row[1]) {
+        fail("figure differs from the enumeration of %llu paths, entry %X", (ull)t.paths, entry);
         say("library: number %llu place %llX group %llu figure %llu; row %llu %llX", (ull)answer[0], (ull)answer[1], (ull)answer[2],
             (ull)answer[3], (ull)table[entry], (ull)table[entry + 1]);
-        say("paths:   number %u place %llX group %llu figure %llu", number, (ull)place, (ull)group, (ull)figure);
-        say("ports %06X to %06X, bus %u", ports.base, ports.end, ports.bus);
-        show_listing(rom, n);
+        say("paths:   number %llu place %llX group %llu figure %llu; row %llu %llX", (ull)w.answer[0], (ull)w.answer[1], (ull)w.answer[2],
+            (ull)w.answer[3], (ull)w.row[0], (ull)w.row[1]);
+        say("ports %06X to %06X, bus %u", l->area.base, l->area.end, l->area.bus);
+        show_listing(l->rom, l->n);
     }
 }
 
-static int too_many(const uint8_t *rom, uint32_t n)
+/* What the way says at a row that is refused. At a row with its own address that nothing else explains it is 22. */
+static void way_refused(const uint8_t *rom, uint32_t n, uint64_t at, const uint64_t *table, const uint64_t *answer, uint32_t got)
 {
-    struct walk w = {rom, n, ports, 0, 0, H8_NONE};
-    for (uint32_t p = 0; p < n && w.paths <= MANY; p += 2)
-        walk(&w, p, 0);
-    return w.paths > MANY;
+    uint64_t low = table[at + 1];
+    struct stands s = stands_at(rom, n, (uint32_t)low, no_ports(16777216));
+    uint32_t number = s.number ? s.number : low == at ? 22 : 16;
+    if (got != number || answer[0] != number || answer[1] != low || answer[2] != (s.number ? s.group : 0) || answer[3])
+        fail("way from a refused place %llX answers %llu at %llX, group %llu; wanted %u", (ull)at, (ull)answer[0], (ull)answer[1], (ull)answer[2],
+             number);
 }
 
-/* h8_way from every place: upward, along the listing, and the states add up to the figure. */
-static void follow(const uint8_t *rom, uint32_t n, struct area area, uint32_t entry, const uint64_t *table)
+void follow(const uint8_t *rom, uint32_t n, struct area area, uint32_t entry, const uint64_t *table)
 {
     const uint32_t *board = lend_board(0xFFFFFFFF, area);
     uint64_t *answer = lend(&answer_lender, 32), total = 0, at = entry;
-    struct decoded d;
-    uint32_t to[2];
-    int ways;
     for (;;) {
         memset(answer, 0xEE, 32);
         uint32_t got = h8_way(board, H8_BOARD, rom, n, table, n, (uint32_t)at, answer, 4);
-        uint32_t forbidden = ways_from(rom, n, (uint32_t)at, &d, to, &ways);
+        struct stands s = stands_at(rom, n, (uint32_t)at, area);
         if (table[at + 1] != H8_NONE) {
-            uint32_t why = ways_from(rom, n, (uint32_t)table[at + 1], &d, to, &ways);
-            if (got != why || answer[0] != why || answer[1] != table[at + 1] || answer[2] != (uint64_t)d.group || answer[3])
-                fail("way from a refused place %llX answers %llu at %llX, group %llu", (ull)at, (ull)answer[0], (ull)answer[1], (ull)answer[2]);
+            way_refused(rom, n, at, table, answer, got);
             return;
         }
-        total += model_most(&d, area);
-        if (got || answer[0] || answer[1] || answer[2] || forbidden)
+        if (got || answer[0] || answer[1] || answer[2] || s.number || (s.calls && s.callee >= n))
             return fail("way from %llX answers %llu at %llX, group %llu", (ull)at, (ull)answer[0], (ull)answer[1], (ull)answer[2]);
-        if (ways == 0)
+        total += s.states + (s.calls ? table[s.callee] : 0);
+        if (s.ways == 0)
             break;
-        uint64_t best = ways == 2 && table[to[1]] > table[to[0]] ? to[1] : to[0];
+        uint64_t best = s.ways == 2 && table[s.to[1]] > table[s.to[0]] ? s.to[1] : s.to[0];
         if (answer[3] != best)
             return fail("way from %llX goes to %llX, wanted %llX", (ull)at, (ull)answer[3], (ull)best);
         at = best;
@@ -250,71 +199,79 @@ static void count_ports(const uint8_t *code, uint32_t n)
             absolutes_inside += model_most(&d, ports) > d.fields[H8_STATES];
 }
 
-static void compare_listing(void)
+void compare_table(const uint8_t *code, uint32_t n, struct area area)
 {
-    static uint8_t code[2 * WORDS + 8];
-    ports = some_ports();
-    uint32_t n = make_listing(code);
-    if (too_many(code, n))
-        return;
-    count_ports(code, n);
-    const uint32_t *board = lend_board(0xFFFFFFFF, ports);
+    static struct listing l;
+    static struct total rows[ENUMERATED / 2];
+    const uint32_t *board = lend_board(0xFFFFFFFF, area);
     uint8_t *rom = lend(&rom_lender, n);
     uint64_t *table = lend(&out_lender, 8 * (n + 2));
     memcpy(rom, code, n);
+    read_listing(&l, rom, n, area);
+    reckon_levels(&l, rows);
     for (uint32_t entry = 0; entry < n && !failing(); entry += 2) {
         uint64_t *answer = lend(&answer_lender, 32);
         memset(table, 0xEE, 8 * (n + 2));
         memset(answer, 0xEE, 32);
         uint32_t got = h8_figure(board, H8_BOARD, rom, n, entry, table, n + 2, answer, 4);
-        compare_entry(rom, n, entry, table, answer, got);
+        compare_entry(&l, entry, table, answer, got, rows[entry / 2]);
         if (table[n] != 0xEEEEEEEEEEEEEEEE || table[n + 1] != table[n] || !guards_stand(&out_lender))
             fail("figure wrote past its table");
         if (memcmp(rom, code, n))
             fail("figure changed the code");
         count(1);
     }
+    for (uint32_t p = 0; p < n && !failing(); p += 2) {
+        struct wanted w = wanted_of(&l, p, rows[p / 2]);
+        if (table[p] != w.row[0] || table[p + 1] != w.row[1]) {
+            fail("row %X is %llu %llX, wanted %llu %llX", p, (ull)table[p], (ull)table[p + 1], (ull)w.row[0], (ull)w.row[1]);
+            show_listing(rom, n);
+        }
+    }
     for (uint32_t entry = 0; entry < n && !failing(); entry += 2)
-        follow(rom, n, ports, entry, table);
+        follow(rom, n, area, entry, table);
 }
 
-/* RUNS AGAINST FIGURES: step until the first RTS completes or a step is refused. On any board with these ports, so that the stack is in
-   them, beside them, or over an end of them. */
-static uint64_t reached;                    /* runs with ports that took as long as the figure says */
+static void compare_listing(void)
+{
+    static uint8_t code[2 * WORDS + 8];
+    ports = some_ports();
+    uint32_t n = make_listing(code, (struct mix){below(3) ? 30 : 90, below(2) ? 0 : below(12), below(3) ? below(40) : 0, 0});
+    count_ports(code, n);
+    compare_table(code, n, ports);
+}
+
+/* RUNS AGAINST FIGURES, in the mode that returns: on any board with these ports, so that the stack is in them, beside them, or over an end
+   of them; with enough budget, and with too little. */
+enum { RUN_RAM = 96 };
+static uint64_t reached, deep, ends[24], endings[H8_ELSEWHERE + 1];
 
 static void run_from(const uint8_t *rom, uint32_t n, uint32_t entry, uint64_t figure)
 {
-    uint8_t *ram = lend(&ram_lender, 32);
-    uint32_t *regs = lend(&regs_lender, 40), *answer = lend(&answer_lender, 16);
-    uint32_t base = ports.end - 32 + 2 * below((32 - (ports.end - ports.base)) / 2 + 1);
-    const uint32_t *board = lend_board(base, ports);
-    uint64_t states = 0, steps = 0;
-    struct decoded d;
+    uint8_t ram[RUN_RAM];
+    uint32_t regs[10], base = ports.end - RUN_RAM + 2 * below((RUN_RAM - (ports.end - ports.base)) / 2 + 1);
+    struct board b = {base, rom, n, ram, RUN_RAM, ports};
+    uint32_t budget = figure > 20000 ? 1000 : below(4) ? 1000000 : below(20);
     for (int i = 0; i < 8; i++)
-        regs[i] = below(2) ? base + below(32) : edge32();
-    for (int i = 0; i < 32; i++)
+        regs[i] = below(2) ? base + below(RUN_RAM) : edge32();
+    for (int i = 0; i < RUN_RAM; i++)
         ram[i] = (uint8_t)any();
-    regs[7] = base + (below(8) ? 8 + below(16) : below(40));
+    regs[7] = base + (below(8) ? 36 + below(40) : below(2) ? below(36) : below(RUN_RAM + 8));
+    for (int i = below(3) ? 8 : 0; i < 7; i++)
+        regs[i] = below(3) ? regs[i] : regs[7] - 4 + below(8);
     regs[H8_PC] = entry;
     regs[H8_CONDITION] = below(256);
-    for (int returned = 0; !returned;) {
-        uint32_t at = regs[H8_PC];
-        int unknown = decode(rom + (at < n ? at : 0), at < n ? n - at : 0, &d);
-        uint32_t got = h8_step(board, H8_BOARD, rom, n, ram, 32, regs, 10, answer, 4);
-        if (got && (got < 5 || got > 7) && got != 14)
-            return fail("a run from %X is refused by %u at %X", entry, got, answer[1]);
-        ends[got] += got != 0;
-        if (got)
-            break;
-        returned = !unknown && d.fields[H8_KIND] == H8_RTS;
-        states += answer[3];
-        steps++;
-        ends[0] += (uint64_t)returned;
-        reached += returned && states == figure && ports.base < ports.end;
-        if (states > figure || steps > n / 2)
-            return fail("a run from %X took %llu states and %llu steps, figure %llu", entry, (ull)states, (ull)steps, (ull)figure);
+    struct routine r = compare_routine(&b, regs, 0xFFFFFFFF, budget);
+    ends[r.number]++;
+    endings[r.ending]++;
+    deep += r.deepest > 1;
+    reached += r.ending == H8_RETURNED && r.states == figure && ports.base < ports.end;
+    if (r.number && (r.number < 5 || r.number > 7) && r.number != 14)
+        fail("a run from %X is refused by %u at %X", entry, r.number, r.place);
+    if (r.ending == H8_NINTH || r.states > figure || (r.ending == H8_SPENT && r.steps < budget)) {
+        fail("a run from %X has ending %d after %llu states and %llu steps, figure %llu", entry, r.ending, (ull)r.states, (ull)r.steps, (ull)figure);
+        show_listing(rom, n);
     }
-    count(1);
 }
 
 static void runs_of_listing(void)
@@ -322,9 +279,10 @@ static void runs_of_listing(void)
     static uint8_t code[2 * WORDS + 8];
     static uint64_t table[2 * WORDS + 8];
     uint64_t answer[4];
-    uint32_t from = 0xFFFF20 + 2 * below(80);
+    uint32_t from = 0xFFFE20 + 2 * below(80);
     ports = (struct area){from, from + 2 * below(17), below(2) ? 8 : 16};
-    uint32_t n = make_listing(code), entry = 2 * below(n / 2);
+    uint32_t n = make_listing(code, (struct mix){below(3) ? 20 : 60, below(2), below(3) ? 20 + below(40) : 0, below(2) ? 12 : 0});
+    uint32_t entry = 2 * below(n / (below(2) ? 2 : 6) + 1) % n;
     uint8_t *rom = lend(&rom_lender, n);
     memcpy(rom, code, n);
     if (h8_figure(lend_board(0, ports), H8_BOARD, rom, n, entry, table, n, answer, 4) == 0)
@@ -411,9 +369,11 @@ static const struct told tolds[] = {
     {"JMP far up", "5AFFFFFF", 0, 2, 0xFFFFFE, 0, 0},
     {"JMP @ER0", "5900", 0, 9, 0, 0, 0},
     {"JMP @@aa:8", "5B00", 0, 9, 0, 0, 0},
-    {"BSR", "55005470", 0, 9, 0, 0, 0},
-    {"JSR aa:24, cut short: 4 before 9", "5E00", 0, 4, 0, 0, 0},
-    {"JSR after a NOP", "00005E0000005470", 0, 9, 2, 0, 0},
+    {"JSR @ER2", "5D205470", 0, 9, 0, 0, 0},
+    {"JSR @@aa:8", "5F205470", 0, 9, 0, 0, 0},
+    {"JSR aa:24, cut short", "5E00", 0, 4, 0, 0, 0},
+    {"BSR d:16, cut short", "5C00", 0, 4, 0, 0, 0},
+    {"no BSR d:16 with a second byte that is not 0", "5C0100005470", 0, 3, 0, 0, 0},
     {"unknown", "00005470FFFF0102", 6, 3, 6, 0, 0},
     {"cut short", "00007900", 0, 4, 2, 0, 0},
     {"the lowest of two forbidden places", "47025B005900", 0, 9, 2, 0, 0},
@@ -475,25 +435,28 @@ void test_figures(void)
     for (size_t i = 0; i < sizeof tolds / sizeof *tolds; i++)
         compare_told(&tolds[i]);
     end("listings");
-    begin("figure and way against the enumeration of every path on random listings");
+    begin("figure and way against the enumeration of every path through trees of calls on random listings, every row");
     for (int k = 0; k < 6000 && !failing(); k++)
         compare_listing();
-    met("figures", (const int[]){0, 2, 3, 4, 9, 10, 15}, 7, answers, 500);
-    if ((ported < 2000 || absolutes_inside < 800) && !failing())
-        fail("only %llu listings with ports, and %llu absolute addresses in them", (ull)ported, (ull)absolutes_inside);
+    met("figures", (const int[]){0, 2, 3, 4, 9, 10, 15, 16}, 8, answers, 500);
+    if ((ported < 2000 || absolutes_inside < 800 || with_calls < 500) && !failing())
+        fail("only %llu listings with ports, %llu absolute addresses in them, and %llu figures of a call", (ull)ported, (ull)absolutes_inside,
+             (ull)with_calls);
     end("entries");
-    note("figures %" PRIu64 "; refusals 2, 3, 4, 9, 10, 15: %" PRIu64 " %" PRIu64 " %" PRIu64 " %" PRIu64 " %" PRIu64 " %" PRIu64
-         "; up to %" PRIu64 " paths", answers[0], answers[2], answers[3], answers[4], answers[9], answers[10], answers[15], most_paths);
-    note("with ports %" PRIu64 ", absolute addresses in them %" PRIu64, ported, absolutes_inside);
+    note("figures %" PRIu64 "; refusals 2, 3, 4, 9, 10, 15, 16: %" PRIu64 " %" PRIu64 " %" PRIu64 " %" PRIu64 " %" PRIu64 " %" PRIu64 " %" PRIu64
+         "; up to %" PRIu64 " paths", answers[0], answers[2], answers[3], answers[4], answers[9], answers[10], answers[15], answers[16], most_paths);
+    note("with ports %" PRIu64 ", absolute addresses in them %" PRIu64 ", figures of a call %" PRIu64, ported, absolutes_inside, with_calls);
     begin("no run above its figure");
-    for (int k = 0; k < 20000 && !failing(); k++)
+    for (int k = 0; k < 16000 && !failing(); k++)
         runs_of_listing();
     met("runs", (const int[]){0, 5, 6, 7, 14}, 5, ends, 20);
-    if (reached < 1000 && !failing())
-        fail("only %llu runs with ports took as long as the figure says", (ull)reached);
+    met("endings", (const int[]){H8_SPENT, H8_REFUSED, H8_RETURNED, H8_ELSEWHERE}, 4, endings, 50);
+    if ((reached < 1000 || deep < 400) && !failing())
+        fail("only %llu runs with ports took as long as the figure says, and %llu were two calls deep", (ull)reached, (ull)deep);
     end("runs");
-    note("returned %" PRIu64 "; refused by 5, 6, 7, 14: %" PRIu64 " %" PRIu64 " %" PRIu64 " %" PRIu64 "; with ports and as long as the figure %"
-         PRIu64, ends[0], ends[5], ends[6], ends[7], ends[14], reached);
+    note("returned %" PRIu64 ", elsewhere %" PRIu64 "; refused by 5, 6, 7, 14: %" PRIu64 " %" PRIu64 " %" PRIu64 " %" PRIu64, endings[H8_RETURNED],
+         endings[H8_ELSEWHERE], ends[5], ends[6], ends[7], ends[14]);
+    note("with ports and as long as the figure %" PRIu64 ", two calls deep %" PRIu64, reached, deep);
     begin("figure and way on listings as long as can be, whole tables");
     for (size_t i = 0; i < sizeof long_listings / sizeof *long_listings; i++)
         compare_long(&long_listings[i]);

@@ -155,13 +155,9 @@ static void follow_sheet(const struct board *b)
     want("sheet: the way goes by midnight", midnight, 1);
 }
 
-/* An ordinary sheet fits a gap of 160 states; the first after midnight doesn't, and splits the run in two. */
-static void sheet_counter(const char *folder)
+/* The console's memory a minute before midnight, and after the second sheet, the first of the day. */
+static void before_midnight(uint8_t *ram)
 {
-    static uint8_t ram[4096];
-    uint32_t regs[10] = {1, 2};
-    memset(ram, 0, sizeof ram);
-    struct board b = sample(folder, "sheet", ram, sizeof ram);
     set_word(ram, 0xFFEF20, 1439);
     set_word(ram, 0xFFEF22, 1439);
     set_word(ram, 0xFFEF24, 4999);
@@ -169,14 +165,10 @@ static void sheet_counter(const char *folder)
     set_word(ram, 0xFFEF2C, 0x00FF);
     set_word(ram, 0xFFEF2E, 0xF000);
     ram[0xFFEF30 - 0xFFEF10] = 0x09;
-    struct ran r = sheet(&b, regs);
-    want("sheet: an ordinary sheet", r.states, 110);
-    want("sheet: it is counted", word_at(ram, 0xFFEF24), 5000);
-    set_word(ram, 0xFFEF20, 0);
-    r = sheet(&b, regs);
-    want("sheet: the first sheet after midnight", r.states, 194);
-    want("sheet: it came back", (uint64_t)r.ending, H8_STOPPED);
-    want("sheet: ER0 and ER1 are kept", regs[0] == 1 && regs[1] == 2, 1);
+}
+
+static void after_midnight(const uint8_t *ram)
+{
     want("sheet: the book's day", word_at(ram, 0xFFF000), 7);
     want("sheet: the book's number", word_at(ram, 0xFFF002), 0x0900);
     want("sheet: the book's sheets", word_at(ram, 0xFFF004), 5000);
@@ -185,10 +177,74 @@ static void sheet_counter(const char *folder)
     want("sheet: the new number", ram[0xFFEF30 - 0xFFEF10], 0x10);
     want("sheet: the second part", word_at(ram, 0xFFEF24), 1);
     want("sheet: the total", word_at(ram, 0xFFEF2A), 2);
+}
+
+/* An ordinary sheet fits a gap of 160 states; the first after midnight doesn't, and splits the run in two. */
+static void sheet_counter(const char *folder)
+{
+    static uint8_t ram[4096];
+    uint32_t regs[10] = {1, 2};
+    memset(ram, 0, sizeof ram);
+    struct board b = sample(folder, "sheet", ram, sizeof ram);
+    before_midnight(ram);
+    struct ran r = sheet(&b, regs);
+    want("sheet: an ordinary sheet", r.states, 110);
+    want("sheet: it is counted", word_at(ram, 0xFFEF24), 5000);
+    set_word(ram, 0xFFEF20, 0);
+    r = sheet(&b, regs);
+    want("sheet: the first sheet after midnight", r.states, 194);
+    want("sheet: it came back", (uint64_t)r.ending, H8_STOPPED);
+    want("sheet: ER0 and ER1 are kept", regs[0] == 1 && regs[1] == 2, 1);
+    after_midnight(ram);
     follow_sheet(&b);
     regs[H8_PC] = 0x200;
     r = compare_run(&b, regs, 0xFFFFFFFF, 1000000);
     want("sheet: a million steps", r.steps, 1000000);
+}
+
+/* One run of the routine that calls others, up to its return. */
+static struct routine split_sheet(const struct board *b, uint32_t regs[10])
+{
+    regs[H8_PC] = 0x100;
+    regs[7] = 0x00FFFF0C;
+    struct routine r = compare_routine(b, regs, 0xFFFFFFFF, 1000);
+    want("split: it returned", (uint64_t)r.ending, H8_RETURNED);
+    want("split: ER0 and ER1 are kept", regs[0] == 1 && regs[1] == 2, 1);
+    return r;
+}
+
+static void split_figures(const struct board *b)
+{
+    static uint64_t table[4096];
+    uint64_t answer[4];
+    want("split: figure's answer", h8_figure(NO_PORTS, b->rom, b->rom_n, 0x100, table, 4096, answer, 4), 0);
+    want("split: figure", answer[3], 232);
+    want("split: figure of SPLIT", table[0x80], 112);
+    want("split: figure of NEXT", table[0x40], 26);
+    want("split: figure after the call", table[0x11C], 66);
+    want("split: the way's answer at the call", h8_way(NO_PORTS, b->rom, b->rom_n, table, b->rom_n, 0x118, answer, 4), 0);
+    want("split: it goes on behind the call", answer[3], 0x11C);
+    follow(b->rom, (uint32_t)b->rom_n, no_ports(16777216), 0x100, table);
+}
+
+/* The same console with calls: an ordinary sheet fits a gap of 160 states, and so would SHEET's own 120 at midnight; with what it calls
+   they are 232. */
+static void split_console(const char *folder)
+{
+    static uint8_t ram[4096];
+    uint32_t regs[10] = {1, 2};
+    memset(ram, 0, sizeof ram);
+    struct board b = sample(folder, "split", ram, sizeof ram);
+    before_midnight(ram);
+    struct routine r = split_sheet(&b, regs);
+    want("split: an ordinary sheet", r.states, 110);
+    want("split: it calls nothing", r.deepest, 0);
+    set_word(ram, 0xFFEF20, 0);
+    r = split_sheet(&b, regs);
+    want("split: the first sheet after midnight", r.states, 232);
+    want("split: it calls two deep", r.deepest, 2);
+    after_midnight(ram);
+    split_figures(&b);
 }
 
 /* One call of the feeder's routine with the order reached and the key held, the stack at `sp`, which holds the stop address 0. */
@@ -340,8 +396,9 @@ static void random_program(uint64_t endings[3], uint64_t *steps, uint64_t *left_
 void test_runs(const char *samples)
 {
     uint64_t endings[3] = {0}, steps = 0, left_out = 0;
-    begin("samples: sheet counter, decimal counter, copy loop, feeder with ports, every form once");
+    begin("samples: sheet counter, the same with calls, decimal counter, copy loop, feeder with ports, every form once");
     sheet_counter(samples);
+    split_console(samples);
     decimal_counter(samples);
     copy_loop(samples);
     feeder(samples);

@@ -1,9 +1,13 @@
 /* h8.h: the H8/300H processor in proved software, for programs in C.
 
-   Ten functions over numbers and lent arrays. An array is lent as a pointer and its length in elements. The library keeps
+   Eleven functions over numbers and lent arrays. An array is lent as a pointer and its length in elements. The library keeps
    nothing between calls, allocates nothing, prints nothing and calls nothing.
 
    WHAT CHANGED, the newest first. Programs that it concerns have to be compiled again with this header.
+   - h8_figure follows calls: BSR and JSR @aa:24 count what the routine takes that they enter, where they were 9 before. New
+     are the refusals 16, a ninth level of calls, and 22, a figure above 1,000,000,000. What the figure promises it now promises
+     of runs by h8_routine, which is new: such a run knows where it has to return to. The bound on steps is gone. It concerns
+     programs that look for 9, that read a table's rows, or that held h8_run to a figure or to rom_n / 2 steps.
    - New: h8_replay_begin, h8_replay_take and h8_replay_end, for a recording that arrives in cuts, with refusal 20. They concern
      no other function.
    - New: h8_replay, which replays a run against a recording, with refusals 17, 18 and 19. It concerns no other function.
@@ -34,17 +38,19 @@
       6   data write outside working memory                                          the first failing address
       7   DAA or DAS outside the rows of the manual                                  the instruction
       8   entry odd or outside read-only memory                                      the entry
-      9   the listing can't be followed here: a call, JMP @ERn or JMP @@aa:8         that place
+      9   the listing can't be followed here: JMP or JSR by @ERn or @@aa:8           that place
      10   a way from here goes to a target that is not above it                      that place
      11   not an instruction: a field out of range                                   0
      12   budget over 1,000,000                                                      0
      13   a lent array is too short                                                  the length it needs
      14   a zero divisor, or a quotient that does not fit                            the instruction
      15   a code of the manual that this set leaves out, or its beginning            the address
+     16   a ninth level of calls, as where a routine calls itself                    the call
      17   the version byte of a recording is not 1                                   0
      18   the length of a record is not 9                                            the byte where the record begins
      19   a record is unfinished, or the recording is empty                          the byte where it begins
      20   a delivery to a replay that is over, or a second end                       0
+     22   the figure is above 1,000,000,000                                          the entry
 
    Each function also writes this number, its place and its group to the first three numbers of the lent array `answer`. The
    group is 0 with every number but 15. There it is the group of the code that is left out: 3 MOV with displacement d:24,
@@ -55,9 +61,9 @@
    written. A `regs` or a `fields` to be filled that is too short is looked for next. After these two each function's own
    order follows.
 
-   On a refusal nothing lent changes but `answer`, with these exceptions: h8_run, h8_replay and h8_replay_take keep the steps
-   they completed; the functions of a replay in cuts leave in `replay` where it stands; and h8_figure fills its table on 2, 3, 4,
-   9, 10 and 15.
+   On a refusal nothing lent changes but `answer`, with these exceptions: h8_run, h8_routine, h8_replay and h8_replay_take keep
+   the steps they completed; the functions of a replay in cuts leave in `replay` where it stands; and h8_figure fills its table
+   on 2, 3, 4, 9, 10, 15, 16 and 22.
 
    AN EXAMPLE: how many states a routine at 0x100 can take, on boards with ports from 0xFFFF20 on behind a bus of 8 bits.
 
@@ -202,7 +208,7 @@ uint32_t h8_step(const uint32_t *board, size_t board_n, const uint8_t *rom, size
    H8_REFUSED.
    Looks for: 13 (answer_n below 6: nothing written), 13 (regs_n below 10: place 10), 12, 1; in these four cases no step is
    done. Then the refusals of a step. `regs` and `ram` are as the completed steps leave them, whatever the ending. */
-enum h8_ending { H8_STOPPED, H8_SPENT, H8_REFUSED };
+enum h8_ending { H8_STOPPED, H8_SPENT, H8_REFUSED, H8_RETURNED, H8_NINTH, H8_ELSEWHERE }; /* of h8_run the first three */
 uint32_t h8_run(const uint32_t *board, size_t board_n, const uint8_t *rom, size_t rom_n, uint8_t *ram, size_t ram_n,
                 uint32_t *regs, size_t regs_n, uint32_t stop, uint32_t budget, uint64_t *answer, size_t answer_n);
 
@@ -274,31 +280,59 @@ uint32_t h8_replay_take(const uint32_t *board, size_t board_n, const uint8_t *ro
                         uint32_t *replay, size_t replay_n, const uint8_t *bytes, size_t n, uint64_t *answer, size_t answer_n);
 uint32_t h8_replay_end(uint32_t *replay, size_t replay_n, uint64_t *answer, size_t answer_n);
 
-/* The figure of the routine at `entry`: the largest total of states over all paths from there to an RTS. On them an access at
-   an address in the code counts what its place costs. Where an address from a register will lie is not known, so an access
-   there, by ER7 too, counts what the dearest place on the board costs: a port, unless the area is empty.
+/* Steps as h8_run does, from the entry of a routine to its return, with the addresses that its calls push: up to eight are
+   kept. BSR and every JSR push one, and nothing else does, PUSH.L neither. Before each step it looks first for the stop
+   address, then for the budget, and then at the step:
+   - if it is refused, the run ends there as h8_run's does (H8_REFUSED);
+   - a call with eight addresses kept is not made: H8_NINTH;
+   - an RTS with an address kept that would go elsewhere than to the one kept last is not made: H8_ELSEWHERE. One that goes
+     there takes that address off;
+   - an RTS with none kept is made, and the run ends after it: H8_RETURNED, wherever it went, the stop address too.
+   A step that is not made adds no step and no states, and leaves `regs` and `ram`: PC is at the call or the RTS.
+   answer, 15 numbers: [number, place, group, steps done, the sum of their states, ending, how many addresses are kept, then
+   eight numbers: these addresses in the order in which they were pushed, 0 past them]. It returns 0 with every ending but
+   H8_REFUSED.
+   Looks for: 13 (answer_n below 15: nothing written), 13 (regs_n below 10: place 10), 12, 1; in these four cases no step is
+   done and nothing is kept. Then the refusals of a step. `regs` and `ram` are as the completed steps leave them. */
+enum h8_routine_answer { H8_KEPT_COUNT = 6, H8_KEPT = 7, H8_ROUTINE_ANSWER = 15 };
+#define H8_KEPT_MAX 8u
+uint32_t h8_routine(const uint32_t *board, size_t board_n, const uint8_t *rom, size_t rom_n, uint8_t *ram, size_t ram_n,
+                    uint32_t *regs, size_t regs_n, uint32_t stop, uint32_t budget, uint64_t *answer, size_t answer_n);
+
+/* The figure of the routine at `entry`: the largest total of states over all paths from there to an RTS. Branches and jumps go
+   up only, else 10. BSR and JSR @aa:24 are followed: a call counts its own states and the largest total of the routine that it
+   enters, and the path goes on after it. A call may go anywhere in `rom`, down too. Calls nest eight deep; a ninth level is
+   16 at the call's place, in whatever routine that stands, and so is a routine that calls itself.
+   On a path an access at an address in the code counts what its place costs. Where an address from a register will lie is not
+   known, so an access there, by ER7 too, counts what the dearest place on the board costs: a port, unless the area is empty.
    Of the board only the area is looked at, not H8_BASE.
    answer, 4 numbers: [number, place, group, figure].
    Looks for: 13 (answer_n below 4: nothing written), 1 (no board that is right with this `rom` has this area: the length of
    `rom` is odd or over 524,288; the area's bus or its ends are wrong; it begins below the end of `rom`, ends above 2^24 or is
    longer than 65,536), 8, 13 (table_n below rom_n: place rom_n); in these cases the table stays. Else the table is filled:
    for each place p, that is, each even address below rom_n, table[p] is its figure, 0 if refused, and table[p+1] is the
-   lowest forbidden place that its paths reach, H8_NONE if none. Numbers from table[rom_n] on stay. Then 2, 3, 4, 9, 10 or 15
-   at the entry's lowest forbidden place, or 0.
+   lowest forbidden place that its paths reach, in the routines that they call too, H8_NONE if none. Each row is reckoned with
+   eight levels of calls left. Where no forbidden place is reached and the figure is above 1,000,000,000, the row is 0 and p.
+   Numbers from table[rom_n] on stay. Then 2, 3, 4, 9, 10, 15 or 16 at the entry's lowest forbidden place; 22 at the entry, if
+   there is none and the figure is above 1,000,000,000; or 0.
    0: on every right board with this `rom` and this area (if it is empty: with any empty area), whatever its H8_BASE and `ram`,
-   and from any registers with PC at `entry`, a run comes to the end of its first RTS, or is refused by 5, 6, 7 or 14, within
-   `figure` states and rom_n / 2 steps. */
+   and from any registers with PC at `entry`, a run by h8_routine that meets no stop address returns, or is refused by 5, 6, 7
+   or 14, or ends at a return elsewhere, and nothing else, if its budget is large enough, even above 1,000,000; and within any
+   budget its states are at most `figure`. */
 uint32_t h8_figure(const uint32_t *board, size_t board_n, const uint8_t *rom, size_t rom_n, uint32_t entry,
                    uint64_t *table, size_t table_n, uint64_t *answer, size_t answer_n);
 
 /* One instruction of the longest way: where the path of the largest total goes from `place`. Where next instruction and
-   target have the same figure it goes to the next instruction. Followed from an entry until H8_NONE, the states of the
-   instructions on the way, counted as h8_figure counts them, add up to that entry's figure.
+   target have the same figure it goes to the next instruction, and so it does at a call. Followed from an entry until H8_NONE,
+   the states of the instructions on the way, counted as h8_figure counts them, a call with the routine that it enters, add up
+   to that entry's figure.
    `table` is one that h8_figure filled for these bytes and this area. (With another table nothing is promised of the answer's
    numbers.) Of the board only the area is looked at, as by h8_figure.
    answer, 4 numbers: [number, place, group, next place, or H8_NONE if the routine returns here].
    Looks for: 13 (answer_n below 4: nothing written), 1, 8 (`place` odd or outside), 13 (table_n below rom_n: place rom_n),
-   then what h8_figure answers for this place as its entry: 2, 3, 4, 9, 10 or 15 at its lowest forbidden place. */
+   then what h8_figure answers for this place as its entry: 2, 3, 4, 9, 10, 15 or 16 at its lowest forbidden place, or 22. But
+   a call that is its own lowest forbidden place, since it comes to itself again, nine levels deep, is 16 there and 22 here: the
+   table has of it what it has of a figure above 1,000,000,000. */
 uint32_t h8_way(const uint32_t *board, size_t board_n, const uint8_t *rom, size_t rom_n, const uint64_t *table,
                 size_t table_n, uint32_t place, uint64_t *answer, size_t answer_n);
 

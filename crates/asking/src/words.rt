@@ -11,6 +11,8 @@ pub enum Kind {
     BudgetOption,
     StopOption,
     ErOption,
+    RoutineOption,
+    DeepOption,
     NoOption,
 }
 
@@ -65,6 +67,12 @@ pub fn kind_of(s: &[u8]) -> Kind
     }
     if same(s, b"--er") {
         return Kind::ErOption;
+    }
+    if same(s, b"--routine") {
+        return Kind::RoutineOption;
+    }
+    if same(s, b"--deep") {
+        return Kind::DeepOption;
     }
     if two_dashes(s) {
         Kind::NoOption

@@ -7,7 +7,7 @@ use native.Mathlib.Omega.{arith}
 use lib.ListN.{length, getD}
 use Rattle.refusal.specs.Refusals.{numberOf, placeOf, groupOf}
 use Rattle.refusal.specs.declared.Refusal.{Refusal}
-use Rattle.refusal.specs.declared.Refusal.the-variants.{BadBoard, FetchOutside, UnknownCode, CutShort, ReadOutside, WriteOutside, NoAdjustRow, BadEntry, NotFollowed, NotUpward, NotInstruction, BudgetTooLarge, LentTooShort, DivideFails, LeftOut, BadVersion, BadLength, Unfinished, ReplayEnded}
+use Rattle.refusal.specs.declared.Refusal.the-variants.{BadBoard, FetchOutside, UnknownCode, CutShort, ReadOutside, WriteOutside, NoAdjustRow, BadEntry, NotFollowed, NotUpward, NotInstruction, BudgetTooLarge, LentTooShort, DivideFails, LeftOut, TooDeep, BadVersion, BadLength, Unfinished, ReplayEnded, TooLong}
 use Rattle.registers.specs.Condition.{conditionOf, byteOf}
 use Rattle.registers.specs.declared.Registers.{Registers}
 use Rattle.registers.proofs.Bytes.{condition-back, byte-small}
@@ -58,10 +58,12 @@ RefusalFits BudgetTooLarge = Unit {0}
 RefusalFits (LentTooShort p) = Unit {0}
 RefusalFits (DivideFails p) = Unit {0}
 RefusalFits (LeftOut x) = x < 2 ^ 32
+RefusalFits (TooDeep p) = Unit {0}
 RefusalFits BadVersion = Unit {0}
 RefusalFits (BadLength p) = Unit {0}
 RefusalFits (Unfinished p) = Unit {0}
 RefusalFits ReplayEnded = Unit {0}
+RefusalFits (TooLong p) = Unit {0}
 
 abbrev pub ReportFits : Report → Type 0
 ReportFits Agreed = Unit {0}
@@ -91,10 +93,12 @@ refusal-back BudgetTooLarge h = refl
 refusal-back (LentTooShort p) h = refl
 refusal-back (DivideFails p) h = refl
 refusal-back (LeftOut x) h = ap (λ (y : ℕ). LeftOut y) (omega arith)
+refusal-back (TooDeep p) h = refl
 refusal-back BadVersion h = refl
 refusal-back (BadLength p) h = refl
 refusal-back (Unfinished p) h = refl
 refusal-back ReplayEnded h = refl
+refusal-back (TooLong p) h = refl
 
 -- eight registers
 eight : (l : List ℕ) → length l ≡ 8

@@ -7,7 +7,7 @@ use lib.Dec.{eqb}
 use lib.ListN.{getD}
 use Rattle.refusal.specs.Refusals.{numberOf, placeOf, groupOf}
 use Rattle.refusal.specs.declared.Refusal.{Refusal}
-use Rattle.refusal.specs.declared.Refusal.the-variants.{BadBoard, FetchOutside, UnknownCode, CutShort, ReadOutside, WriteOutside, NoAdjustRow, BadEntry, NotFollowed, NotUpward, NotInstruction, BudgetTooLarge, LentTooShort, DivideFails, LeftOut, BadVersion, BadLength, Unfinished, ReplayEnded}
+use Rattle.refusal.specs.declared.Refusal.the-variants.{BadBoard, FetchOutside, UnknownCode, CutShort, ReadOutside, WriteOutside, NoAdjustRow, BadEntry, NotFollowed, NotUpward, NotInstruction, BudgetTooLarge, LentTooShort, DivideFails, LeftOut, TooDeep, BadVersion, BadLength, Unfinished, ReplayEnded, TooLong}
 use Rattle.layout.specs.Registers.{registersOf, tenOf}
 use Rattle.replay.specs.Replay.{fieldNumber, part, standing}
 use Rattle.replay.specs.declared.Part.{Part}
@@ -64,11 +64,13 @@ refusalAt n place group =
     (cond (eqb n 13) (LentTooShort place)
     (cond (eqb n 14) (DivideFails place)
     (cond (eqb n 15) (LeftOut (group % 2 ^ 8 * 2 ^ 24 + place % 2 ^ 24))
+    (cond (eqb n 16) (TooDeep place)
     (cond (eqb n 17) BadVersion
     (cond (eqb n 18) (BadLength place)
     (cond (eqb n 19) (Unfinished place)
     (cond (eqb n 20) ReplayEnded
-    BadBoard)))))))))))))))))
+    (cond (eqb n 22) (TooLong place)
+    BadBoard)))))))))))))))))))
 
 abbrev pub reportAt : ℕ → Field → Refusal → Report
 reportAt n f r = cond (eqb n 0) Agreed (cond (eqb n 1) (Differs f) (Halted r))

@@ -44,10 +44,12 @@ fn refusal_at(n: u32, place: u32, group: u32) -> Refusal
         13 => Refusal::LentTooShort(place),
         14 => Refusal::DivideFails(place),
         15 => Refusal::LeftOut(group % 256 * 16777216 + place % 16777216),
+        16 => Refusal::TooDeep(place),
         17 => Refusal::BadVersion,
         18 => Refusal::BadLength(place),
         19 => Refusal::Unfinished(place),
         20 => Refusal::ReplayEnded,
+        22 => Refusal::TooLong(place),
         _ => Refusal::BadBoard,
     }
 }

@@ -46,13 +46,14 @@ use Rattle.step.specs.Step.{After, after, answered, stays, goodPc, fetchOf, ste
 use Rattle.step.proofs.Laws as Laws
 use Rattle.step.proofs.Laws.{Comes, outside, no-code, completes, comes, step-is}
 use Rattle.paths.specs.declared.Flow.{Flow}
-use Rattle.paths.specs.declared.Flow.the-variants.{Next, Jump, Either, Ends, Stop}
-use Rattle.paths.specs.Paths.{IsPlace, Leads, countOf}
+use Rattle.paths.specs.declared.Flow.the-variants.{Next, Jump, Either, Call, Ends, Stop}
+use Rattle.paths.specs.Paths.{IsPlace, Leads, Enters, countOf}
 use Rattle.paths.proofs.Laws.{le-or}
-use Rattle.paths.proofs.Sound.{Stepped, back-home, went, by-data, OneStep}
-use Rattle.listing.specs.Listing.{branchFlow, jumpFlow, goesFlow, foundFlow, decodedAt, flowAt}
-use Rattle.step.specs.Processor.{State, processor}
+use Rattle.paths.proofs.Kept.{Stepped, back-home, onward, entered, by-data}
+use Rattle.listing.specs.Listing.{branchFlow, jumpFlow, callFlow, goesFlow, foundFlow, decodedAt, flowAt}
+use Rattle.step.specs.Processor.{State, Calling, processor}
 use Rattle.figure.specs.Bound.{Carrying}
+use Rattle.figure.proofs.Takes.{takes}
 
 -- an even address below 2^24 is what PC holds when it is set to it
 place-stays : (p : ℕ) → p % 2 ≡ 0 → p < 16777216 → p % 2 ^ 24 / 2 * 2 ≡ p
@@ -87,15 +88,20 @@ branch-count n t k true y = le-refl k
 branch-count n t k false true = le-refl k
 branch-count n t k false false = le-refl k
 
+branch-plain : (n t k u : ℕ) (x y : Bool) → Enters (cond x (Jump t k) (cond y (Next n k) (Either n t k))) u → ⊥
+branch-plain n t k u true y e = e
+branch-plain n t k u false true e = e
+branch-plain n t k u false false e = e
+
 -- a step on a board takes no more than what the site's figure counts
 within : (k : Site) (b : Board) → Carrying k b → (r : Registers) (i : Instruction) → statesAt (b .site) r i ≤ mostOf k i
 within k b (inl e) r i = subst (λ (x : Site). statesAt (b .site) r i ≤ mostOf x i) e (never-more (b .site) r i)
 within k b (inr (told, carried)) r i = omega (arith, printed (b .site) r carried i, most-printed k told i)
 
 module _ (k : Site) (b : Board) (on : Carrying k b) (rom : List ℕ) (bytes : Bytes rom) where
-  -- working memory keeps its length, so the board stays right
+  -- working memory keeps its length, so the board stays right, and PC stays a place
   abbrev pub Kept : State → Type 0
-  Kept s = goodBoard b (length rom) (length (s .mem)) ≡ true
+  Kept s = (goodBoard b (length rom) (length (s .mem)) ≡ true) × IsPlace (s .regs .pc)
 
   module _ (s : State) where
     abbrev r : Registers
@@ -117,35 +123,67 @@ module _ (k : Site) (b : Board) (on : Carrying k b) (rom : List ℕ) (bytes : By
       unfolding decodedAt
       next-even = omega (arith, z .even, code-read pc (drop pc rom) i n (bytes-drop pc rom bytes) d .sized .even)
 
-      leads : (g : Goes) → ((f : Refusal) → goesFlow pc (nextOf pc n) (mostOf k i) g ≡ Stop f → ⊥) → (g ≡ Returns → ⊥) → (p : ℕ)
+      leads : (g : Goes) → ((f : Refusal) → goesFlow pc (nextOf pc n) (mostOf k i) g ≡ Stop f → ⊥) → (Calling g → ⊥) → (g ≡ Returns → ⊥) → (p : ℕ)
           → followOf r b rom (s .mem) g (nextOf pc n) ≡ Value p → Leads (goesFlow pc (nextOf pc n) (mostOf k i) g) (p % 2 ^ 24 / 2 * 2)
       unfolding goesFlow followOf jumpFlow aimOf
-      leads Onward free out p e = let h : p ≡ nextOf pc n = cc in rw h (place-stays (nextOf pc n) next-even (omega arith))
-      leads (Branches c reach) free out p e =
+      leads Onward free calm out p e = let h : p ≡ nextOf pc n = cc in rw h (place-stays (nextOf pc n) next-even (omega arith))
+      leads (Branches c reach) free calm out p e =
           let h : p ≡ cond (holdsOf c (r .condition)) (targetOf (nextOf pc n) reach) (nextOf pc n) = cc in
           branch-leads (r .condition) c (nextOf pc n) (targetOf (nextOf pc n) reach) (mostOf k i) p (place-stays (nextOf pc n) next-even (omega arith))
           (place-stays (targetOf (nextOf pc n) reach) (target-even (nextOf pc n) reach) (target-in (nextOf pc n) reach)) h
-      leads (Jumps (ByReg x)) free out p e = absurd (free (NotFollowed pc) refl)
-      leads (Jumps (Direct a)) free out p e = let h : p ≡ a = cc in rw h
-      leads (Jumps (Vector a)) free out p e = absurd (free (NotFollowed pc) refl)
-      leads (CallsNear reach) free out p e = absurd (free (NotFollowed pc) refl)
-      leads (Calls t) free out p e = absurd (free (NotFollowed pc) refl)
-      leads Returns free out p e = absurd (out refl)
+      leads (Jumps (ByReg x)) free calm out p e = absurd (free (NotFollowed pc) refl)
+      leads (Jumps (Direct a)) free calm out p e = let h : p ≡ a = cc in rw h
+      leads (Jumps (Vector a)) free calm out p e = absurd (free (NotFollowed pc) refl)
+      leads (CallsNear reach) free calm out p e = absurd (calm tt)
+      leads (Calls t) free calm out p e = absurd (calm tt)
+      leads Returns free calm out p e = absurd (out refl)
+
+      -- a call that is followed enters its target, and leads where it pushes
+      enters : (g : Goes) → ((f : Refusal) → goesFlow pc (nextOf pc n) (mostOf k i) g ≡ Stop f → ⊥) → Calling g → (p : ℕ)
+          → followOf r b rom (s .mem) g (nextOf pc n) ≡ Value p → Enters (goesFlow pc (nextOf pc n) (mostOf k i) g) (p % 2 ^ 24 / 2 * 2) × Leads (goesFlow pc (nextOf pc n) (mostOf k i) g) (nextOf pc n)
+      unfolding goesFlow followOf callFlow aimOf
+      enters Onward free calls p e = absurd calls
+      enters (Branches c reach) free calls p e = absurd calls
+      enters (Jumps t) free calls p e = absurd calls
+      enters (CallsNear reach) free calls p e = let h : p ≡ targetOf (nextOf pc n) reach = cc in (rw h (place-stays (targetOf (nextOf pc n) reach) (target-even (nextOf pc n) reach) (target-in (nextOf pc n) reach)), refl)
+      enters (Calls (ByReg x)) free calls p e = absurd (free (NotFollowed pc) refl)
+      enters (Calls (Direct a)) free calls p e = let h : p ≡ a = cc in (rw h, refl)
+      enters (Calls (Vector a)) free calls p e = absurd (free (NotFollowed pc) refl)
+      enters Returns free calls p e = absurd calls
+
+      -- what does not call enters nothing
+      plain : (g : Goes) → (Calling g → ⊥) → (t : ℕ) → Enters (goesFlow pc (nextOf pc n) (mostOf k i) g) t → ⊥
+      unfolding goesFlow branchFlow jumpFlow
+      plain Onward calm t e = e
+      plain (Branches c reach) calm t e = branch-plain (nextOf pc n) (targetOf (nextOf pc n) reach) (mostOf k i) t (eqb c 0) (eqb c 1) e
+      plain (Jumps (ByReg x)) calm t e = e
+      plain (Jumps (Direct a)) calm t e = e
+      plain (Jumps (Vector a)) calm t e = e
+      plain (CallsNear reach) calm t e = calm tt
+      plain (Calls target) calm t e = calm tt
+      plain Returns calm t e = e
 
       -- RTS stands at PC exactly if the instruction there returns
       returns-not : (goesOf i ≡ Returns → ⊥) → processor b rom .AtReturn s → ⊥
       unfolding decodedAt
       returns-not out (j, m, e, g) = let h : i ≡ j = cc in out (rw h g)
 
+      -- a call does exactly if it calls
+      pushes-not : (Calling (goesOf i) → ⊥) → (a : ℕ) → processor b rom .Pushes s a → ⊥
+      unfolding decodedAt
+      pushes-not calm a (j, m, e, c, h) = let z : j ≡ i = cc in calm (subst (λ (x : Instruction). Calling (goesOf x)) z c)
+
       counts : (g : Goes) → ((f : Refusal) → goesFlow pc (nextOf pc n) (mostOf k i) g ≡ Stop f → ⊥) → mostOf k i ≤ countOf (goesFlow pc (nextOf pc n) (mostOf k i) g)
-      unfolding goesFlow jumpFlow branchFlow
+      unfolding goesFlow jumpFlow callFlow branchFlow
       counts Onward free = le-refl (mostOf k i)
       counts (Branches c reach) free = branch-count (nextOf pc n) (targetOf (nextOf pc n) reach) (mostOf k i) (eqb c 0) (eqb c 1)
       counts (Jumps (ByReg x)) free = absurd (free (NotFollowed pc) refl)
       counts (Jumps (Direct a)) free = le-refl (mostOf k i)
       counts (Jumps (Vector a)) free = absurd (free (NotFollowed pc) refl)
-      counts (CallsNear reach) free = absurd (free (NotFollowed pc) refl)
-      counts (Calls t) free = absurd (free (NotFollowed pc) refl)
+      counts (CallsNear reach) free = le-refl (mostOf k i)
+      counts (Calls (ByReg x)) free = absurd (free (NotFollowed pc) refl)
+      counts (Calls (Direct a)) free = le-refl (mostOf k i)
+      counts (Calls (Vector a)) free = absurd (free (NotFollowed pc) refl)
       counts Returns free = le-refl (mostOf k i)
 
       module _ (p : ℕ) (q : Registers) (m : List ℕ) (same : length m ≡ length (s .mem)) (kept : Kept s)
@@ -154,30 +192,45 @@ module _ (k : Site) (b : Board) (on : Carrying k b) (rom : List ℕ) (bytes : By
         here : (g : Goes) → goesOf i ≡ g → flowAt k rom pc ≡ goesFlow pc (nextOf pc n) (mostOf k i) g
         here g h = flow-is ∙ ap (λ (x : Goes). goesFlow pc (nextOf pc n) (mostOf k i) x) h
 
-        goes-on : (g : Goes) → goesOf i ≡ g → (g ≡ Returns → ⊥) → followOf r b rom (s .mem) g (nextOf pc n) ≡ Value p → Stepped (processor b rom) Kept (flowAt k rom pc) s
-        goes-on g h out e =
-            let clear : (f : Refusal) → goesFlow pc (nextOf pc n) (mostOf k i) g ≡ Stop f → ⊥ = λ f x. free f (here g h ∙ x) in
+        -- what is kept after it
+        after-kept : Kept (record { regs = withPc q p; mem = m })
+        after-kept = (rw same (kept .0), record { even = omega arith; in-range = omega arith })
+
+        free-at : (g : Goes) → goesOf i ≡ g → (f : Refusal) → goesFlow pc (nextOf pc n) (mostOf k i) g ≡ Stop f → ⊥
+        free-at g h f x = free f (here g h ∙ x)
+
+        goes-on : (g : Goes) → goesOf i ≡ g → (Calling g → ⊥) → (g ≡ Returns → ⊥) → followOf r b rom (s .mem) g (nextOf pc n) ≡ Value p → Stepped (processor b rom) Kept (flowAt k rom pc) s
+        goes-on g h calm out e =
             rw (here g h)
-            (went {t = record { regs = withPc q p; mem = m }} (returns-not (λ x. out (sym h ∙ x))) step (rw same kept) (leads g clear out p e) (omega (arith, within k b on r i, counts g clear)))
+            (onward {t = record { regs = withPc q p; mem = m }} (returns-not (λ x. out (sym h ∙ x))) (pushes-not (λ x. calm (rw h at x))) step after-kept (plain g calm) (leads g (free-at g h) calm out p e) (takes (b .site) r i)
+            (omega (arith, within k b on r i, counts g (free-at g h))))
+
+        called : (g : Goes) → goesOf i ≡ g → Calling g → (g ≡ Returns → ⊥) → followOf r b rom (s .mem) g (nextOf pc n) ≡ Value p → Stepped (processor b rom) Kept (flowAt k rom pc) s
+        unfolding decodedAt
+        called g h calls out e =
+            let w = enters g (free-at g h) calls p e in
+            rw (here g h)
+            (entered {t = record { regs = withPc q p; mem = m }} {k = nextOf pc n} (returns-not (λ x. out (sym h ∙ x))) (i, n, d, rw h calls, refl) step after-kept (w .1) (w .0) (takes (b .site) r i)
+            (omega (arith, within k b on r i, counts g (free-at g h))))
 
         completed : (g : Goes) → goesOf i ≡ g → followOf r b rom (s .mem) g (nextOf pc n) ≡ Value p → Stepped (processor b rom) Kept (flowAt k rom pc) s
         unfolding goesFlow decodedAt
-        completed Onward h e = goes-on Onward h (λ x. let z : _≡_ {A = ℕ} 0 1 = cc in omega arith) e
-        completed (Branches c reach) h e = goes-on (Branches c reach) h (λ x. let z : _≡_ {A = ℕ} 0 1 = cc in omega arith) e
-        completed (Jumps t) h e = goes-on (Jumps t) h (λ x. let z : _≡_ {A = ℕ} 0 1 = cc in omega arith) e
-        completed (CallsNear reach) h e = goes-on (CallsNear reach) h (λ x. let z : _≡_ {A = ℕ} 0 1 = cc in omega arith) e
-        completed (Calls t) h e = goes-on (Calls t) h (λ x. let z : _≡_ {A = ℕ} 0 1 = cc in omega arith) e
-        completed Returns h e = back-home {t = record { regs = withPc q p; mem = m }} (i, n, d, h) step (here Returns h) (within k b on r i)
+        completed Onward h e = goes-on Onward h (λ x. x) (λ x. let z : _≡_ {A = ℕ} 0 1 = cc in omega arith) e
+        completed (Branches c reach) h e = goes-on (Branches c reach) h (λ x. x) (λ x. let z : _≡_ {A = ℕ} 0 1 = cc in omega arith) e
+        completed (Jumps t) h e = goes-on (Jumps t) h (λ x. x) (λ x. let z : _≡_ {A = ℕ} 0 1 = cc in omega arith) e
+        completed (CallsNear reach) h e = called (CallsNear reach) h tt (λ x. let z : _≡_ {A = ℕ} 0 1 = cc in omega arith) e
+        completed (Calls t) h e = called (Calls t) h tt (λ x. let z : _≡_ {A = ℕ} 0 1 = cc in omega arith) e
+        completed Returns h e = back-home {t = record { regs = withPc q p; mem = m }} (i, n, d, h) (pushes-not (λ x. rw h at x)) step after-kept (here Returns h) (takes (b .site) r i) (within k b on r i)
 
-    module _ (z : IsPlace pc) (kept : Kept s) (free : (f : Refusal) → flowAt k rom pc ≡ Stop f → ⊥) where
+    module _ (kept : Kept s) (free : (f : Refusal) → flowAt k rom pc ≡ Stop f → ⊥) where
       come : (a : After) → Comes r b rom (s .mem) a → stepOf b rom (s .mem) r ≡ a → Stepped (processor b rom) Kept (flowAt k rom pc) s
       unfolding flowAt foundFlow decodedAt
       come a (outside l) e = absurd (free (FetchOutside pc) (rw (le-leb (length rom) pc (ltb-false pc (length rom) l))))
       come a (no-code f l d) e = absurd (free f (rw (lt-leb (length rom) pc (ltb-true pc (length rom) l), d)))
       come a (Laws.by-data i n f l d k) e = by-data e k
-      come a (completes i n p q m l d g e′ k h) e = completed i n (ltb-true pc (length rom) l) d z p q m k kept free e (goesOf i) refl g
+      come a (completes i n p q m l d g e′ k h) e = completed i n (ltb-true pc (length rom) l) d (kept .1) p q m k kept free e (goesOf i) refl g
 
       pub goes-where : Stepped (processor b rom) Kept (flowAt k rom pc) s
       goes-where =
-          let x : goodPc pc ≡ true = rw (eq-eqb (pc % 2) 0 (z .even), lt-ltb pc (2 ^ 24) (z .in-range)) in
-          come (fetchOf r b rom (s .mem)) (comes r b rom (s .mem)) (step-is r b rom (s .mem) kept x)
+          let x : goodPc pc ≡ true = rw (eq-eqb (pc % 2) 0 (kept .1 .even), lt-ltb pc (2 ^ 24) (kept .1 .in-range)) in
+          come (fetchOf r b rom (s .mem)) (comes r b rom (s .mem)) (step-is r b rom (s .mem) (kept .0) x)

@@ -1,17 +1,18 @@
 -- What `figure` answers, and what it leaves in the lent table. Document 01, "The routine's figure" and "Refusal numbers".
 use mathlib.Core.Path.{_≡_}
-use mathlib.Core.Logic.{_↔_}
+use mathlib.Core.Logic.{_⊎_, _↔_}
 use mathlib.Core.List.{List}
 use mathlib.Core.Bool.{Bool, cond, _&&_}
-use Prim.Native.Nat.{ℕ, _%_, _≤_}
-use lib.ListN.{length, getD}
+use Prim.Native.Nat.{ℕ, _%_}
+use lib.ListN.{length}
 use lib.Dec.{ltb, leb, eqb}
 use Rattle.site.specs.declared.Site.{Site}
 use Rattle.memory.specs.Board.{couldCarry}
 use Rattle.refusal.specs.declared.Refusal.{Refusal}
-use Rattle.refusal.specs.declared.Refusal.the-variants.{BadBoard, BadEntry, LentTooShort}
+use Rattle.refusal.specs.declared.Refusal.the-variants.{BadBoard, BadEntry, LentTooShort, TooLong}
 use Rattle.paths.specs.declared.Flow.{Flow}
-use Rattle.paths.specs.Paths.{Forbidden, Meets, Largest, Clear, Lowest, RowsFrom}
+use Rattle.paths.specs.Paths.{Forbidden, Meets, Lowest, IsFigure, Over}
+use Rattle.levels.specs.Levels.{Filled}
 use Rattle.listing.specs.Listing.{flowAt}
 use Rattle.figure.specs.declared.Asked.{Asked}
 use Rattle.figure.specs.declared.Asked.the-variants.{Fit, Unfit}
@@ -34,16 +35,12 @@ askedOf k len lent entry =
     (Unfit (BadEntry entry)))
     (Unfit BadBoard)
 
--- the answer by the paths from the entry: the figure, or why the lowest forbidden place reached is forbidden
+-- the answer by the paths from the entry, with eight levels of calls left: the figure; 22, where nothing forbidden is met and the largest total is above
+-- 1,000,000,000; or why the lowest forbidden place reached is forbidden
 pub data Told (flow : ℕ → Flow) (entry : ℕ) : Verdict → Type 0 where
-  longest : {n : ℕ} → Clear flow entry → Largest flow entry n → Told flow entry (Longest n)
-  forbids : {f : ℕ} {r : Refusal} → Lowest flow entry f → Forbidden flow f r → Told flow entry (Forbids r)
-
--- the table after: the row of every place, and past them what was there
-pub record Filled (flow : ℕ → Flow) (len : ℕ) (before after : List ℕ) : Type 0 where
-  pub same-length : length after ≡ length before
-  pub rows : RowsFrom flow len after 0
-  pub rest : (i : ℕ) → len ≤ i → getD after i 0 ≡ getD before i 0
+  longest : {n : ℕ} → IsFigure flow entry n → Told flow entry (Longest n)
+  too-long : Over flow entry → Told flow entry (Forbids (TooLong entry))
+  forbids : {d f : ℕ} {r : Refusal} → Lowest flow 8 entry f → Forbidden flow d f r → Told flow entry (Forbids r)
 
 abbrev pub InOrder : Asked → (ℕ → Flow) → ℕ → ℕ → List ℕ → Verdict → List ℕ → Type 0
 InOrder (Unfit f) flow len entry before r after = (r ≡ Forbids f) × (after ≡ before)
@@ -53,8 +50,9 @@ InOrder Fit flow len entry before r after = Told flow entry r × Filled flow len
 pub record Figured (k : Site) (rom : List ℕ) (entry : ℕ) (before : List ℕ) (r : Verdict) (after : List ℕ) : Type 0 where
   pub in-order : InOrder (askedOf k (length rom) (length before) entry) (flowAt k rom) (length rom) entry before r after
 
--- with the site, the memory, the entry and the table fit, it is refused exactly when a path meets a forbidden place
+-- with the site, the memory, the entry and the table fit, it is refused exactly when a path meets a forbidden place, or none does and the largest total is
+-- above 1,000,000,000
 abbrev pub RefusedExactly : Site → List ℕ → ℕ → List ℕ → Verdict → Type 0
 RefusedExactly k rom entry before r =
     askedOf k (length rom) (length before) entry ≡ Fit
-    → ((f : Refusal) × (r ≡ Forbids f)) ↔ ((f : ℕ) × Meets (flowAt k rom) entry f)
+    → ((f : Refusal) × (r ≡ Forbids f)) ↔ (((f : ℕ) × Meets (flowAt k rom) 8 entry f) ⊎ Over (flowAt k rom) entry)

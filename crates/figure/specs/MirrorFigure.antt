@@ -3,14 +3,15 @@ use mathlib.Core.Bool.{cond}
 use mathlib.Core.List.{List}
 use Prim.Native.Nat.{ℕ, _%_}
 use lib.ListN.{length}
-use lib.Dec.{eqb}
+use lib.Dec.{eqb, ltb}
 use Rattle.site.specs.declared.Site.{Site}
 use Rattle.refusal.specs.declared.Refusal.{Refusal}
+use Rattle.refusal.specs.declared.Refusal.the-variants.{TooLong}
 use Rattle.paths.specs.declared.Reckoned.{Reckoned}
 use Rattle.paths.specs.declared.Flow.{Flow}
 use Rattle.paths.specs.declared.WayOn.{WayOn}
 use Rattle.paths.specs.declared.WayOn.the-variants.{NoWay}
-use Rattle.paths.specs.MirrorRows.{rowOf, whyOf, onwardOf}
+use Rattle.paths.specs.MirrorRows.{rowOf, whyOf, ownOf, onwardOf}
 use Rattle.listing.specs.Listing.{flowAt}
 use Rattle.figure.specs.declared.Asked.{Asked}
 use Rattle.figure.specs.declared.Asked.the-variants.{Fit, Unfit}
@@ -21,12 +22,18 @@ use Rattle.figure.specs.Answer.{askedOf}
 unfoldable pub whyAt : (ℕ → Flow) → ℕ → Refusal
 whyAt flow low = whyOf (low % 16777216) (flow (low % 16777216))
 
-unfoldable pub verdictOf : (ℕ → Flow) → Reckoned → Verdict
-verdictOf flow r = cond (eqb (r .low) 16777215) (Longest (r .figure)) (Forbids (whyAt flow (r .low)))
+unfoldable pub figureOf : ℕ → ℕ → Verdict
+figureOf entry n = cond (ltb 1000000000 n) (Forbids (TooLong entry)) (Longest n)
+
+unfoldable pub verdictOf : (ℕ → Flow) → ℕ → Reckoned → Verdict
+verdictOf flow entry r = cond (eqb (r .low) 16777215) (figureOf entry (r .figure)) (Forbids (whyAt flow (r .low)))
 
 -- what `way` answers
+unfoldable pub noWayOf : (ℕ → Flow) → ℕ → ℕ → Refusal
+noWayOf flow place low = cond (eqb low place) (ownOf place (flow place)) (whyAt flow low)
+
 unfoldable pub onFrom : (ℕ → Flow) → ℕ → List ℕ → ℕ → Reckoned → WayOn
-onFrom flow len table place r = cond (eqb (r .low) 16777215) (onwardOf len table (flow place)) (NoWay (whyAt flow (r .low)))
+onFrom flow len table place r = cond (eqb (r .low) 16777215) (onwardOf len table (flow place)) (NoWay (noWayOf flow place (r .low)))
 
 unfoldable pub wayAsked : (ℕ → Flow) → ℕ → List ℕ → ℕ → Asked → WayOn
 wayAsked flow len table place (Unfit f) = NoWay f

@@ -1,16 +1,15 @@
-// The routine's figure: the largest total of states over all paths from an entry to a return. Document 01, "The routine's figure".
+// The routine's figure: the largest total of states over all paths from an entry to a return, those of the routines that they call with them. Document 01,
+// "The routine's figure", and document 02, W9.
 use paths::Reckoned;
 use paths::WayOn;
 use refusal::Refusal;
 use site::Site;
 ghost use mathlib.Core.Path.{_≡_};
-ghost use Prim.Native.Nat.{_%_, _≤_};
 ghost use lib.ListN.{length};
-ghost use Rattle.paths.specs.MirrorRows.{reckonedOf};
 ghost use Rattle.listing.specs.Listing.{flowAt};
-ghost use Rattle.figure.specs.Answer.{askedOf, Filled, Figured, RefusedExactly};
+ghost use Rattle.figure.specs.Answer.{askedOf, Figured, RefusedExactly};
 ghost use Rattle.figure.specs.Bound.{RunsKept};
-ghost use Rattle.figure.specs.MirrorFigure.{whyAt, verdictOf, onFrom, wayOf};
+ghost use Rattle.figure.specs.MirrorFigure.{whyAt, figureOf, verdictOf, noWayOf, onFrom, wayOf};
 ghost use Rattle.figure.specs.Longest.{WayTold};
 
 // The figure, or a refusal.
@@ -26,6 +25,8 @@ pub enum Asked {
 }
 
 const NONE: u64 = 16777215;
+
+const LIMIT: u64 = 1000000000;
 
 fn look(k: Site, rom: &[u8], lent: usize, entry: u32) -> Asked
     ensures { λ r. ⌜ r ≡ askedOf k (length (now (rom .entry))) lent entry ⌝ }
@@ -47,30 +48,6 @@ fn look(k: Site, rom: &[u8], lent: usize, entry: u32) -> Asked
     Asked::Fit
 }
 
-// The row of the place p, from the rows of the places above it.
-fn row(k: Site, rom: &[u8], table: &[u64], p: u32) -> Reckoned
-    ensures { λ r. ⌜ r ≡ reckonedOf (length (now (rom .entry))) (now (table .entry)) p (flowAt k (now (rom .entry)) p) ⌝ }
-{
-    let f = listing::glance(k, rom, p);
-    paths::reckon(rom.len(), table, p, f)
-}
-
-// Fills the table in one pass, from the highest place down.
-fn fill(k: Site, rom: &[u8], table: &mut [u64])
-    requires { ⌜ (length (now rom) % 2 ≡ 0) × (length (now rom) ≤ 524288) × (length (now rom) ≤ length (now table)) ⌝ }
-    ensures { λ r. ⌜ Filled (flowAt k (now (rom .entry))) (length (now (rom .entry))) (now (table .entry)) (now (table .exit)) ⌝ }
-{
-    let mut p = rom.len();
-    while 0 < p {
-        p -= 2;
-        let r = row(k, rom, table, p as u32);
-        let figure = r.figure;
-        let low = r.low;
-        table[p] = figure;
-        table[p + 1] = low;
-    }
-}
-
 // Why the lowest forbidden place is forbidden.
 fn why_at(k: Site, rom: &[u8], low: u64) -> Refusal
     ensures { λ r. ⌜ r ≡ whyAt (flowAt k (now (rom .entry))) low ⌝ }
@@ -80,13 +57,23 @@ fn why_at(k: Site, rom: &[u8], low: u64) -> Refusal
     paths::why(p, f)
 }
 
-// The answer by a row.
-fn told(k: Site, rom: &[u8], r: Reckoned) -> Verdict
-    ensures { λ v. ⌜ v ≡ verdictOf (flowAt k (now (rom .entry))) r ⌝ }
+// The answer by a total, which stands for any above 1,000,000,000 where it is above that.
+fn held(entry: u32, total: u64) -> Verdict
+    ensures { λ v. ⌜ v ≡ figureOf entry total ⌝ }
+{
+    if LIMIT < total {
+        return Verdict::Forbids(Refusal::TooLong(entry));
+    }
+    Verdict::Longest(total)
+}
+
+// The answer by the entry's row.
+fn told(k: Site, rom: &[u8], entry: u32, r: Reckoned) -> Verdict
+    ensures { λ v. ⌜ v ≡ verdictOf (flowAt k (now (rom .entry))) entry r ⌝ }
 {
     let low = r.low;
     if low == NONE {
-        return Verdict::Longest(r.figure);
+        return held(entry, r.figure);
     }
     Verdict::Forbids(why_at(k, rom, low))
 }
@@ -100,12 +87,22 @@ pub fn figure(k: Site, rom: &[u8], entry: u32, table: &mut [u64]) -> Verdict
     let a = look(k, rom, table.len(), entry);
     match a {
         Asked::Fit => {
-            fill(k, rom, table);
-            let r = paths::row_of(rom.len(), table, entry);
-            told(k, rom, r)
+            let r = levels::fill(k, rom, entry, table);
+            told(k, rom, entry, r)
         }
         Asked::Unfit(f) => Verdict::Forbids(f),
     }
+}
+
+// Why a place has no way, by the lowest forbidden place of its row; which is its own address also where its total is above 1,000,000,000.
+fn no_way(k: Site, rom: &[u8], place: u32, low: u64) -> Refusal
+    ensures { λ r. ⌜ r ≡ noWayOf (flowAt k (now (rom .entry))) place low ⌝ }
+{
+    if low == place as u64 {
+        let f = listing::flow_at(k, rom, place);
+        return paths::own(place, f);
+    }
+    why_at(k, rom, low)
 }
 
 // The longest way from a place by its row.
@@ -117,7 +114,7 @@ fn on_from(k: Site, rom: &[u8], table: &[u64], place: u32, r: Reckoned) -> WayOn
         let f = listing::flow_at(k, rom, place);
         return paths::onward(rom.len(), table, f);
     }
-    WayOn::NoWay(why_at(k, rom, low))
+    WayOn::NoWay(no_way(k, rom, place, low))
 }
 
 // Where the longest path from a place goes next, by a table that `figure` filled.

@@ -19,6 +19,8 @@ pub struct Request {
     pub budget: usize,
     pub stop: usize,
     pub er: usize,
+    pub routine: usize,
+    pub deep: usize,
     pub unknown: usize,
 }
 
@@ -56,6 +58,8 @@ fn width(k: Kind) -> usize
         Kind::BudgetOption => 2,
         Kind::StopOption => 2,
         Kind::ErOption => 3,
+        Kind::RoutineOption => 1,
+        Kind::DeepOption => 1,
         Kind::NoOption => 1,
     }
 }
@@ -93,6 +97,8 @@ fn noted(q: Request, k: Kind, i: usize) -> Request {
         Kind::BudgetOption => r.budget = i,
         Kind::StopOption => r.stop = i,
         Kind::ErOption => r.er = i,
+        Kind::RoutineOption => r.routine = i,
+        Kind::DeepOption => r.deep = i,
         Kind::NoOption => r.unknown = i,
     }
     r
@@ -113,6 +119,8 @@ fn none(count: usize) -> Request {
         budget: 0,
         stop: 0,
         er: 0,
+        routine: 0,
+        deep: 0,
         unknown: 0,
     }
 }

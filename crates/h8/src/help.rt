@@ -5,10 +5,11 @@ pub fn show_help() {
         b"h8: how long a routine of an H8/300H ROM can take, in states; every answer is that of a proved library
 
   h8 figure ROM ENTRY [GAP]      the longest way from ENTRY to its RTS, in states; whether it fits GAP states
-  h8 way ROM ENTRY               that way, instruction by instruction
+  h8 way ROM ENTRY [--deep]      that way, instruction by instruction; with --deep through the routines it calls
   h8 list ROM [FROM [TO]]        a listing of the places FROM to TO, with the figure of each
   h8 run ROM ENTRY --ram BASE LENGTH [--budget N] [--stop ADDRESS] [--er N VALUE]...
                                  runs from ENTRY; prints registers, flags, steps, states and why it ended
+  h8 run ... --routine           the same up to the return of the routine at ENTRY; a figure holds for such runs
   h8 replay ROM ENTRY RECORDING --ram BASE LENGTH [--er N VALUE]...
                                  runs from ENTRY beside a recording; says which record differs first, and in what
                                  (with - for RECORDING, beside what comes in by a pipe)

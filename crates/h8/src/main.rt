@@ -37,7 +37,7 @@ fn surplus(q: Request, u: Use) -> usize {
 
 // An option of `h8 run` alone beside another use. Ports are of no use to `h8 help` either.
 fn astray(q: Request, u: Use) -> usize {
-    let i = either(q.budget, q.stop);
+    let i = either(either(q.budget, q.stop), q.routine);
     match u {
         Use::ForFigure => i,
         Use::ForWay => i,
@@ -45,6 +45,19 @@ fn astray(q: Request, u: Use) -> usize {
         Use::ForRun => 0,
         Use::ForReplay => i,
         Use::ForHelp => either(i, q.port),
+        Use::NoUse => 0,
+    }
+}
+
+// The option of `h8 way` beside another use.
+fn not_deep(q: Request, u: Use) -> usize {
+    match u {
+        Use::ForFigure => q.deep,
+        Use::ForWay => 0,
+        Use::ForList => q.deep,
+        Use::ForRun => q.deep,
+        Use::ForReplay => q.deep,
+        Use::ForHelp => q.deep,
         Use::NoUse => 0,
     }
 }
@@ -71,13 +84,39 @@ fn told(plain: bool, name: &[u8], i: usize, expected: &[u8]) -> bool {
     i != 0
 }
 
+// Whether an option stands beside a use that has no place for it; then a line has said so.
+fn out_of_place(q: Request, u: Use) -> bool {
+    if told(
+        q.plain,
+        b"the option",
+        astray(q, u),
+        b"it with `h8 run` only",
+    ) {
+        return true;
+    }
+    if told(
+        q.plain,
+        b"the option",
+        not_deep(q, u),
+        b"it with `h8 way` only",
+    ) {
+        return true;
+    }
+    told(
+        q.plain,
+        b"the option",
+        strayed(q, u),
+        b"it with `h8 run` or `h8 replay` only",
+    )
+}
+
 // Whether a word or an option is wrong; then a line has said so.
 fn faulty(q: Request, u: Use) -> bool {
     if told(
         q.plain,
         b"the option",
         q.unknown,
-        b"--plain, --port, --ram, --budget, --stop or --er; `h8 help` says more",
+        b"--plain, --port, --ram, --budget, --stop, --er, --routine or --deep; `h8 help` says more",
     ) {
         return true;
     }
@@ -89,20 +128,7 @@ fn faulty(q: Request, u: Use) -> bool {
     ) {
         return true;
     }
-    if told(
-        q.plain,
-        b"the option",
-        astray(q, u),
-        b"it with `h8 run` only",
-    ) {
-        return true;
-    }
-    told(
-        q.plain,
-        b"the option",
-        strayed(q, u),
-        b"it with `h8 run` or `h8 replay` only",
-    )
+    out_of_place(q, u)
 }
 
 fn wide(v: u64) -> usize {
@@ -155,10 +181,10 @@ fn figure(q: Request, k: Site, rom: &[u8], table: &mut [u64]) {
     }
 }
 
-fn way_of(plain: bool, k: Site, rom: &[u8], table: &mut [u64], entry: u32) {
+fn way_of(q: Request, k: Site, rom: &[u8], table: &mut [u64], entry: u32) {
     match figure::figure(k, rom, entry, table) {
-        Verdict::Longest(n) => places::way(k, rom, &table[..], entry, n, plain),
-        Verdict::Forbids(f) => refused(plain, k, rom, f),
+        Verdict::Longest(n) => places::way(k, rom, &table[..], entry, n, q.deep != 0, q.plain),
+        Verdict::Forbids(f) => refused(q.plain, k, rom, f),
     }
 }
 
@@ -166,7 +192,7 @@ fn way(q: Request, k: Site, rom: &[u8], table: &mut [u64]) {
     let Got::Found(entry) = fault::address(q.plain, b"ENTRY", q.third) else {
         return;
     };
-    way_of(q.plain, k, rom, table, asked::small(entry));
+    way_of(q, k, rom, table, asked::small(entry));
 }
 
 fn word_or(q: Request, name: &[u8], i: usize, otherwise: u64) -> Got {

@@ -7,19 +7,34 @@ use memory::Board;
 use registers::Registers;
 use site::Site;
 
-fn go(rom: &[u8], ram: &mut [u8], g: Given, r: Registers, plain: bool) {
+fn board(g: Given) -> Board {
     let area = g.area;
     let site = Site { area };
-    let b = Board { base: g.base, site };
-    let a = run::run(b, rom, ram, r, g.stop, g.budget);
+    Board { base: g.base, site }
+}
+
+fn go(rom: &[u8], ram: &mut [u8], g: Given, r: Registers, plain: bool) {
+    let a = run::run(board(g), rom, ram, r, g.stop, g.budget);
     show::write(lines::ran(text::blank(), rom, g, a, plain));
     show::write(lines::registers(text::blank(), a, plain));
 }
 
-fn lent(rom: &[u8], ram: &mut [u8], g: Given, r: Registers, plain: bool) {
+// To the return of the routine at the entry.
+fn go_out(rom: &[u8], ram: &mut [u8], g: Given, r: Registers, plain: bool) {
+    let a = routine::routine(board(g), rom, ram, r, g.stop, g.budget);
+    show::write(lines::ran_out(text::blank(), rom, g, a, plain));
+    show::write(lines::out_registers(text::blank(), a, plain));
+}
+
+fn lent(q: Request, rom: &[u8], ram: &mut [u8], g: Given, r: Registers) {
     let n = g.length as usize;
-    if n <= ram.len() {
-        go(rom, &mut ram[0..n], g, r, plain);
+    if ram.len() < n {
+        return;
+    }
+    if q.routine == 0 {
+        go(rom, &mut ram[0..n], g, r, q.plain);
+    } else {
+        go_out(rom, &mut ram[0..n], g, r, q.plain);
     }
 }
 
@@ -27,7 +42,7 @@ fn lent(rom: &[u8], ram: &mut [u8], g: Given, r: Registers, plain: bool) {
 fn begun(q: Request, rom: &[u8], ram: &mut [u8], g: Given) {
     let s = asked::start(q.plain, q.count, g.entry);
     if !s.bad {
-        lent(rom, ram, g, s.regs, q.plain);
+        lent(q, rom, ram, g, s.regs);
     }
 }
 

@@ -6,7 +6,7 @@ use native.Mathlib.Omega.{arith}
 use lib.ListN.{length, getD}
 use Rattle.refusal.specs.Refusals.{numberOf}
 use Rattle.refusal.specs.declared.Refusal.{Refusal}
-use Rattle.refusal.specs.declared.Refusal.the-variants.{BadBoard, FetchOutside, UnknownCode, CutShort, ReadOutside, WriteOutside, NoAdjustRow, BadEntry, NotFollowed, NotUpward, NotInstruction, BudgetTooLarge, LentTooShort, DivideFails, LeftOut, BadVersion, BadLength, Unfinished, ReplayEnded}
+use Rattle.refusal.specs.declared.Refusal.the-variants.{BadBoard, FetchOutside, UnknownCode, CutShort, ReadOutside, WriteOutside, NoAdjustRow, BadEntry, NotFollowed, NotUpward, NotInstruction, BudgetTooLarge, LentTooShort, DivideFails, LeftOut, TooDeep, BadVersion, BadLength, Unfinished, ReplayEnded, TooLong}
 use Rattle.site.specs.declared.Site.{Site}
 use Rattle.figure.specs.Answer.{RefusedExactly}
 use Rattle.figure.specs.Bound.{RunsKept}
@@ -34,10 +34,12 @@ numbered BudgetTooLarge = omega arith
 numbered (LentTooShort n) = omega arith
 numbered (DivideFails p) = omega arith
 numbered (LeftOut x) = omega arith
+numbered (TooDeep p) = omega arith
 numbered BadVersion = omega arith
 numbered (BadLength p) = omega arith
 numbered (Unfinished p) = omega arith
 numbered ReplayEnded = omega arith
+numbered (TooLong p) = omega arith
 
 module _ (answer : List ℕ) {new : List ℕ} {n : ℕ} where
   returned-figure : (k : ℕ) → noted n new ≡ figureTold (Longest k) answer → n ≡ 0

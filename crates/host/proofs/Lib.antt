@@ -4,3 +4,4 @@ mod Stepped
 mod Figured
 mod One
 mod Carrying
+mod Within

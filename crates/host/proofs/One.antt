@@ -3,7 +3,7 @@ use mathlib.Core.Path.{_≡_, refl, sym, ap, subst, _∙_}
 use mathlib.Core.List.{List}
 use Prim.Native.Nat.{ℕ}
 use native.Mathlib.Omega.{arith}
-use Rattle.codes.specs.Exact.{Encodes}
+use Rattle.codes.specs.Exact.{Bytes, Encodes}
 use Rattle.decoder.proofs.Laws.{decodes-one}
 use Rattle.encoder.proofs.Laws.{encodes-one}
 use Rattle.layout.specs.Names.{Instruction}
@@ -12,6 +12,7 @@ use Rattle.host.specs.Codes.{decodeLeft, DecodeCall, untold, fields-shor
 use Rattle.host.specs.Steps.{stepCall, runCall}
 use Rattle.host.specs.Replays.{replayCall}
 use Rattle.host.specs.Cuts.{beginCall, takeCall, endCall}
+use Rattle.host.specs.Routines.{routineCall}
 use Rattle.host.specs.Figures as figures
 use Rattle.host.specs.Figures.{FigureCall, figured, wayCall}
 use Rattle.host.proofs.Coded.{spells-names}
@@ -69,11 +70,14 @@ take-one board rom ram replay bytes answer = equal (takeCall board rom ram repla
 pub end-one : (replay answer : List ℕ) → One (λ x. x ≡ endCall replay answer)
 end-one replay answer = equal (endCall replay answer)
 
-pub figure-one : (board rom : List ℕ) (entry : ℕ) (table answer : List ℕ) → One (FigureCall board rom entry table answer)
-figure-one board rom entry table answer x y (figures.answer-short h) (figures.answer-short k) = refl
-figure-one board rom entry table answer x y (figures.answer-short h) (figured k f) = absurd (omega arith)
-figure-one board rom entry table answer x y (figured h f) (figures.answer-short k) = absurd (omega arith)
-figure-one board rom entry table answer x y (figured h f) (figured k g) = let b = figured-one f g in cc (b .0, b .1)
+pub routine-one : (board rom ram regs : List ℕ) (stop budget : ℕ) (answer : List ℕ) → One (λ x. x ≡ routineCall board rom ram regs stop budget answer)
+routine-one board rom ram regs stop budget answer = equal (routineCall board rom ram regs stop budget answer)
+
+pub figure-one : (board rom : List ℕ) → Bytes rom → (entry : ℕ) (table answer : List ℕ) → One (FigureCall board rom entry table answer)
+figure-one board rom bytes entry table answer x y (figures.answer-short h) (figures.answer-short k) = refl
+figure-one board rom bytes entry table answer x y (figures.answer-short h) (figured k f) = absurd (omega arith)
+figure-one board rom bytes entry table answer x y (figured h f) (figures.answer-short k) = absurd (omega arith)
+figure-one board rom bytes entry table answer x y (figured h f) (figured k g) = let b = figured-one bytes f g in cc (b .0, b .1)
 
 -- (that the way is the one that its promise in words leaves is `way-one` of `figure`)
 pub way-one : (board rom table : List ℕ) (place : ℕ) (answer : List ℕ) → One (λ x. x ≡ wayCall board rom table place answer)

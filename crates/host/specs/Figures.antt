@@ -1,7 +1,7 @@
 -- host/h8.h, h8_figure and h8_way: what they return and leave in the lent arrays.
 use Prim.Native.Nat.{ℕ, _≤_, _<_}
 use mathlib.Core.Path.{_≡_}
-use mathlib.Core.Logic.{_↔_}
+use mathlib.Core.Logic.{_⊎_, _↔_}
 use mathlib.Core.Bool.{cond}
 use mathlib.Core.List.{List, [], _∷_}
 use lib.Dec.{ltb}
@@ -13,7 +13,7 @@ use Rattle.figure.specs.declared.Asked.the-variants.{Fit}
 use Rattle.figure.specs.declared.Verdict.{Verdict}
 use Rattle.figure.specs.declared.Verdict.the-variants.{Longest, Forbids}
 use Rattle.listing.specs.Listing.{flowAt}
-use Rattle.paths.specs.Paths.{Meets}
+use Rattle.paths.specs.Paths.{Meets, Over}
 use Rattle.paths.specs.declared.WayOn.{WayOn}
 use Rattle.paths.specs.declared.WayOn.the-variants.{On, Home, NoWay}
 use Rattle.layout.specs.Board.{siteOf}
@@ -44,11 +44,12 @@ pub data FigureCall (board rom : List ℕ) (entry : ℕ) (table answer : List �
   figured : {v : Verdict} {after : List ℕ} → 4 ≤ length answer → Figured (siteOf board) rom entry table v after
       → FigureCall board rom entry table answer (withTable after (figureTold v answer))
 
--- with room for the answer, and the area, the memory, the entry and the table fit, a refusal is returned exactly when a path meets a forbidden place
+-- with room for the answer, and the area, the memory, the entry and the table fit, a refusal is returned exactly when a path meets a forbidden place, or none
+-- does and the largest total is above 1,000,000,000
 abbrev pub FigureExactly : List ℕ → List ℕ → ℕ → List ℕ → List ℕ → ℕ → Type 0
 FigureExactly board rom entry table answer returned =
     4 ≤ length answer → askedOf (siteOf board) (length rom) (length table) entry ≡ Fit
-    → (returned ≡ 0 → ⊥) ↔ ((f : ℕ) × Meets (flowAt (siteOf board) rom) entry f)
+    → (returned ≡ 0 → ⊥) ↔ (((f : ℕ) × Meets (flowAt (siteOf board) rom) 8 entry f) ⊎ Over (flowAt (siteOf board) rom) entry)
 
 -- demand 3: where 0 is returned, every run on every good board with that code and that area keeps to answer[3]
 abbrev pub FigureKept : List ℕ → List ℕ → ℕ → ℕ → List ℕ → Type 0

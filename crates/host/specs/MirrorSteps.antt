@@ -6,11 +6,13 @@ use Rattle.refusal.specs.declared.Outcome.the-variants.{Done, Refused}
 use Rattle.step.specs.Step.{stepOf}
 use Rattle.step.specs.declared.StepAnswer.{StepAnswer}
 use Rattle.run.specs.declared.RunAnswer.{RunAnswer}
+use Rattle.routine.specs.declared.RoutineAnswer.{RoutineAnswer}
 use Rattle.layout.specs.Lent.{overwrite}
 use Rattle.layout.specs.Board.{boardOf}
 use Rattle.layout.specs.Registers.{registersOf, tenOf}
 use Rattle.host.specs.Answers.{Noted, completed, tell, refuse}
 use Rattle.host.specs.Steps.{Left, left, runAnswer}
+use Rattle.host.specs.Routines.{routineTold}
 
 pub record Kept : Type 0 where
   pub returned : ℕ
@@ -35,3 +37,6 @@ stepLent board rom ram regs answer =
 
 unfoldable pub runTold : RunAnswer → List ℕ → List ℕ → Kept
 runTold q regs answer = keeping (overwrite (tenOf (q .regs)) regs) (tell (runAnswer (q .why) (q .steps) (q .states)) answer)
+
+unfoldable pub routineKept : RoutineAnswer → List ℕ → List ℕ → Kept
+routineKept q regs answer = keeping (overwrite (tenOf (q .regs)) regs) (tell (routineTold (q .why) q) answer)

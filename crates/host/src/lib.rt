@@ -4,4 +4,5 @@ mod cuts;
 mod decoding;
 mod figures;
 mod replays;
+mod routines;
 mod stepping;

@@ -4,6 +4,7 @@ ghost use mathlib.Core.List.{[], _∷_};
 ghost use lib.ListN.{getD, set};
 ghost use lib.Seq.{sets};
 ghost use Rattle.layout.specs.Rows.{nine};
+ghost use Rattle.layout.specs.Lent.{eightOf};
 ghost use Rattle.layout.specs.Board.{siteOf, boardOf};
 ghost use Rattle.layout.specs.Registers.{registersOf, tenOf};
 ghost use Rattle.layout.specs.MirrorLent.{rowIn};
@@ -78,6 +79,44 @@ pub fn put_seven_wide(l: &mut [u64], a: u64, b: u64, c: u64, d: u64, e: u64, f: 
 {
     put_six_wide(l, a, b, c, d, e, f);
     put_wide(l, 6, g)
+}
+
+fn put_lower(l: &mut [u64], k: [u32; 8])
+    ensures { λ _. ⌜ now (l .exit) ≡ sets (now (l .entry)) 7 (getD k 0 0 ∷ getD k 1 0 ∷ getD k 2 0 ∷ getD k 3 0 ∷ []) ⌝ }
+{
+    put_wide(l, 7, k[0] as u64);
+    put_wide(l, 8, k[1] as u64);
+    put_wide(l, 9, k[2] as u64);
+    put_wide(l, 10, k[3] as u64)
+}
+
+fn put_upper(l: &mut [u64], k: [u32; 8])
+    ensures { λ _. ⌜ now (l .exit) ≡ sets (now (l .entry)) 11 (getD k 4 0 ∷ getD k 5 0 ∷ getD k 6 0 ∷ getD k 7 0 ∷ []) ⌝ }
+{
+    put_wide(l, 11, k[4] as u64);
+    put_wide(l, 12, k[5] as u64);
+    put_wide(l, 13, k[6] as u64);
+    put_wide(l, 14, k[7] as u64)
+}
+
+// Six numbers, how many addresses a run keeps, and these.
+pub fn put_kept(
+    l: &mut [u64],
+    a: u64,
+    b: u64,
+    c: u64,
+    d: u64,
+    e: u64,
+    f: u64,
+    count: u64,
+    k: [u32; 8],
+)
+    ensures { λ _. ⌜ now (l .exit) ≡ sets (now (l .entry)) 0 (a ∷ b ∷ c ∷ d ∷ e ∷ f ∷ count ∷ eightOf k) ⌝ }
+{
+    put_six_wide(l, a, b, c, d, e, f);
+    put_wide(l, 6, count);
+    put_lower(l, k);
+    put_upper(l, k)
 }
 
 pub fn row_in(l: &[u32]) -> Row

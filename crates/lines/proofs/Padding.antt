@@ -31,3 +31,9 @@ padded {l} {r} {s} k h e f =
     let n : l .n ≡ min (0 + length s) 192 = ap (λ (x : Line). x .n) (e .is) ∙ added-n none s (omega arith) in
     let m : k - l .n ≡ k - length s = omega arith in
     more e (rw m at f)
+
+-- at the beginning of a line as many as the column
+pub indented : {r : Line} (k : ℕ) → Adds none (replicate (k - 0) 32) r → Adds none (replicate k 32) r
+indented {r} k f =
+    let m : k - 0 ≡ k = omega arith in
+    rw m at f

@@ -49,13 +49,19 @@ whyPlain rom AtStop = ascii "ended stop\n"
 whyPlain rom Spent = ascii "ended budget\n"
 whyPlain rom (Halted f) = ascii "ended refusal\n" ++ refusedText rom f true
 
+-- how many steps and states a run from the entry took
+abbrev pub countsWords : ℕ → ℕ → ℕ → List ℕ
+countsWords entry steps states =
+    ascii "run from " ++ (placeOf entry ++ (ascii ": steps " ++ (decimalOf steps ++ (ascii ", states " ++ (decimalOf states ++ ascii "\n")))))
+
+abbrev pub countsPlain : ℕ → ℕ → List ℕ
+countsPlain steps states = numberLine (ascii "steps") steps ++ numberLine (ascii "states") states
+
 abbrev pub toldWords : List ℕ → Given → RunAnswer → List ℕ
-toldWords rom g a =
-    ascii "run from "
-    ++ (placeOf (g .entry) ++ (ascii ": steps " ++ (decimalOf (a .steps) ++ (ascii ", states " ++ (decimalOf (a .states) ++ (ascii "\n" ++ whyWords rom g (a .why)))))))
+toldWords rom g a = countsWords (g .entry) (a .steps) (a .states) ++ whyWords rom g (a .why)
 
 abbrev pub toldPlain : List ℕ → RunAnswer → List ℕ
-toldPlain rom a = numberLine (ascii "steps") (a .steps) ++ (numberLine (ascii "states") (a .states) ++ whyPlain rom (a .why))
+toldPlain rom a = countsPlain (a .steps) (a .states) ++ whyPlain rom (a .why)
 
 unfoldable pub toldText : List ℕ → Given → RunAnswer → Bool → List ℕ
 toldText rom g a plain = cond plain (toldPlain rom a) (toldWords rom g a)

@@ -1,11 +1,17 @@
 // The lines that the tool prints, in words or, with `plain`, as one name and value a line. Each function promises the exact text.
+mod calls;
 mod figures;
 mod parts;
 mod places;
 mod ports;
 mod replays;
+mod routines;
 mod runs;
 
+pub use calls::called;
+pub use calls::level;
+pub use calls::on_call;
+pub use calls::with_call;
 pub use figures::Gap;
 pub use figures::figure;
 pub use figures::longest;
@@ -21,6 +27,8 @@ pub use replays::differs;
 pub use replays::replayed;
 pub use replays::stopped;
 pub use replays::there;
+pub use routines::out_registers;
+pub use routines::ran_out;
 pub use runs::Given;
 pub use runs::ran;
 pub use runs::registers;

@@ -113,7 +113,7 @@ fn standing(k: Site, rom: &[u8], p: u32, d: Decoded, plain: bool) -> Line
     }
 }
 
-fn last_number(l: Line, name: &[u8], n: u64, plain: bool) -> Line
+pub fn last_number(l: Line, name: &[u8], n: u64, plain: bool) -> Line
     ensures { λ r. ⌜ Adds l (lastNumber (now (name .entry)) n plain) r ⌝ }
 {
     if plain {

@@ -2,7 +2,7 @@
 ghost use mathlib.Core.Path.{_≡_};
 ghost use Prim.Native.Nat.{_≤_, _<_};
 ghost use Rattle.text.specs.Lines.{Adds};
-ghost use Rattle.lines.specs.Runs.{ramFault, boardFault, argumentText, wrongText, whyWords, whyPlain, toldWords, toldPlain, toldText, begun, haltedText, ranText, bitOf, flagText, flagsWords, flagsPlain, erText, fourText, registersWords, registersPlain, registersText, heldText};
+ghost use Rattle.lines.specs.Runs.{ramFault, boardFault, argumentText, wrongText, whyWords, whyPlain, countsWords, countsPlain, toldWords, toldPlain, toldText, begun, haltedText, ranText, bitOf, flagText, flagsWords, flagsPlain, erText, fourText, registersWords, registersPlain, registersText, heldText};
 use crate::parts;
 use crate::ports;
 use refusal::Refusal;
@@ -80,7 +80,7 @@ pub fn wrong(l: Line, g: Given, f: Refusal, plain: bool) -> Line
     text::put(b, b'\n')
 }
 
-fn why_words(l: Line, rom: &[u8], g: Given, e: Ending) -> Line
+pub fn why_words(l: Line, rom: &[u8], g: Given, e: Ending) -> Line
     ensures { λ r. ⌜ Adds l (whyWords (now (rom .entry)) g e) r ⌝ }
 {
     match e {
@@ -99,7 +99,7 @@ fn why_words(l: Line, rom: &[u8], g: Given, e: Ending) -> Line
     }
 }
 
-fn why_plain(l: Line, rom: &[u8], e: Ending) -> Line
+pub fn why_plain(l: Line, rom: &[u8], e: Ending) -> Line
     ensures { λ r. ⌜ Adds l (whyPlain (now (rom .entry)) e) r ⌝ }
 {
     match e {
@@ -112,23 +112,37 @@ fn why_plain(l: Line, rom: &[u8], e: Ending) -> Line
     }
 }
 
+// How many steps and states a run from the entry took.
+pub fn counts_words(l: Line, entry: u32, steps: u32, states: u64) -> Line
+    ensures { λ r. ⌜ Adds l (countsWords entry steps states) r ⌝ }
+{
+    let b = text::place(text::bytes(l, b"run from "), entry);
+    let c = text::decimal(text::bytes(b, b": steps "), steps as u64);
+    let d = text::decimal(text::bytes(c, b", states "), states);
+    text::bytes(d, b"\n")
+}
+
+pub fn counts_plain(l: Line, steps: u32, states: u64) -> Line
+    ensures { λ r. ⌜ Adds l (countsPlain steps states) r ⌝ }
+{
+    let b = parts::number(l, b"steps", steps as u64);
+    parts::number(b, b"states", states)
+}
+
 fn told_words(l: Line, rom: &[u8], g: Given, a: RunAnswer) -> Line
     ensures { λ r. ⌜ Adds l (toldWords (now (rom .entry)) g a) r ⌝ }
 {
     let e = a.why;
-    let b = text::place(text::bytes(l, b"run from "), g.entry);
-    let c = text::decimal(text::bytes(b, b": steps "), a.steps as u64);
-    let d = text::decimal(text::bytes(c, b", states "), a.states);
-    why_words(text::bytes(d, b"\n"), rom, g, e)
+    let b = counts_words(l, g.entry, a.steps, a.states);
+    why_words(b, rom, g, e)
 }
 
 fn told_plain(l: Line, rom: &[u8], a: RunAnswer) -> Line
     ensures { λ r. ⌜ Adds l (toldPlain (now (rom .entry)) a) r ⌝ }
 {
     let e = a.why;
-    let b = parts::number(l, b"steps", a.steps as u64);
-    let c = parts::number(b, b"states", a.states);
-    why_plain(c, rom, e)
+    let b = counts_plain(l, a.steps, a.states);
+    why_plain(b, rom, e)
 }
 
 fn told(l: Line, rom: &[u8], g: Given, a: RunAnswer, plain: bool) -> Line
@@ -142,7 +156,7 @@ fn told(l: Line, rom: &[u8], g: Given, a: RunAnswer, plain: bool) -> Line
 }
 
 // Whether a step was made or tried: refusals 1 and 12 come before the first.
-fn has_begun(e: Ending) -> bool
+pub fn has_begun(e: Ending) -> bool
     ensures { λ r. ⌜ r ≡ begun e ⌝ }
 {
     match e {
@@ -260,7 +274,7 @@ fn registers_plain(l: Line, r: Registers) -> Line
     text::bytes(flags_plain(c, f), b"\n")
 }
 
-fn held(l: Line, r: Registers, plain: bool) -> Line
+pub fn held(l: Line, r: Registers, plain: bool) -> Line
     ensures { λ q. ⌜ Adds l (registersText r plain) q ⌝ }
 {
     if plain {

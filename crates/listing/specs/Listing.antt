@@ -18,7 +18,7 @@ use Rattle.site.specs.declared.Site.{Site}
 use Rattle.timing.specs.Made.{mostOf}
 use Rattle.flow.specs.Targets.{nextOf, targetOf}
 use Rattle.paths.specs.declared.Flow.{Flow}
-use Rattle.paths.specs.declared.Flow.the-variants.{Next, Jump, Either, Ends, Stop}
+use Rattle.paths.specs.declared.Flow.the-variants.{Next, Jump, Either, Call, Ends, Stop}
 
 -- by its condition's digit: BRA (0) to its target only, BRN (1) to the next only, other conditions to both (002:1373-1388)
 unfoldable pub branchFlow : ℕ → ℕ → ℕ → ℕ → Flow
@@ -30,13 +30,19 @@ jumpFlow p (ByReg e) s = Stop (NotFollowed p)
 jumpFlow p (Direct a) s = Jump (pcOf a) s
 jumpFlow p (Vector a) s = Stop (NotFollowed p)
 
--- of s states, at p; a call is not followed
+-- document 02, W9: JSR aa:24 calls its target and goes on at the next instruction; JSR 5D and JSR 5F are not followed (002:2270-2272)
+unfoldable pub callFlow : ℕ → ℕ → Target → ℕ → Flow
+callFlow p next (ByReg e) s = Stop (NotFollowed p)
+callFlow p next (Direct a) s = Call next (pcOf a) s
+callFlow p next (Vector a) s = Stop (NotFollowed p)
+
+-- of s states, at p
 unfoldable pub goesFlow : ℕ → ℕ → ℕ → Goes → Flow
 goesFlow p next s Onward = Next next s
 goesFlow p next s (Branches c reach) = branchFlow c next (targetOf next reach) s
 goesFlow p next s (Jumps target) = jumpFlow p target s
-goesFlow p next s (CallsNear reach) = Stop (NotFollowed p)
-goesFlow p next s (Calls target) = Stop (NotFollowed p)
+goesFlow p next s (CallsNear reach) = Call next (targetOf next reach) s
+goesFlow p next s (Calls target) = callFlow p next target s
 goesFlow p next s Returns = Ends s
 
 -- with the site k an instruction counts the most that it takes on any board that has it

@@ -10,12 +10,13 @@ use site::Site;
 ghost use mathlib.Core.Path.{_≡_};
 ghost use Prim.Native.Nat.{_+_, _*_, _<_};
 ghost use Rattle.codes.specs.declared.Decoded.the-variants.{Code};
-ghost use Rattle.codes.specs.declared.Instruction.the-variants.{Rts};
-ghost use Rattle.paths.specs.declared.Flow.the-variants.{Next, Ends};
+ghost use Rattle.codes.specs.declared.Instruction.the-variants.{Bsr, Jsr, Rts};
+ghost use Rattle.paths.specs.declared.Flow.the-variants.{Next, Call, Ends};
+ghost use Rattle.flow.specs.Targets.{targetOf};
 ghost use Rattle.timing.specs.Made.{mostOf};
 ghost use Rattle.decoder.specs.MirrorWords.{row0, row1, row6, planOf};
 ghost use Rattle.listing.specs.MirrorGlance.{Told};
-ghost use Rattle.listing.specs.Listing.{branchFlow, jumpFlow, foundFlow, flowAt};
+ghost use Rattle.listing.specs.Listing.{branchFlow, jumpFlow, callFlow, foundFlow, flowAt};
 
 fn branch(c: u8, next: u32, to: u32, s: u64) -> Flow
     ensures { λ r. ⌜ r ≡ branchFlow c next to s ⌝ }
@@ -52,6 +53,32 @@ fn returns(k: Site) -> Flow
     Flow::Ends(s as u64)
 }
 
+// BSR and JSR push where ER7 points.
+fn near_call(k: Site, next: u32, reach: Reach) -> Flow
+    ensures { λ r. ⌜ r ≡ Call next (targetOf next reach) (mostOf k (Bsr reach)) ⌝ }
+{
+    let pushed = timing::dearest(k, Width::Long);
+    match reach {
+        Reach::Near(d) => Flow::Call(
+            next,
+            flow::target(next, Reach::Near(d)),
+            (4 + pushed) as u64,
+        ),
+        Reach::Far(d) => Flow::Call(next, flow::target(next, Reach::Far(d)), (6 + pushed) as u64),
+    }
+}
+
+fn call(k: Site, p: u32, next: u32, to: Target) -> Flow
+    ensures { λ r. ⌜ r ≡ callFlow p next to (mostOf k (Jsr to)) ⌝ }
+{
+    let pushed = timing::dearest(k, Width::Long);
+    match to {
+        Target::ByReg(_) => Flow::Stop(Refusal::NotFollowed(p)),
+        Target::Direct(a) => Flow::Call(next, registers::pc(a), (6 + pushed) as u64),
+        Target::Vector(_) => Flow::Stop(Refusal::NotFollowed(p)),
+    }
+}
+
 // An instruction of n bytes at p. Its parts are looked at here, where the decoder has left them: to hand them on whole is to copy them.
 fn found(k: Site, p: u32, i: Instruction, n: usize) -> Flow
     ensures { λ r. ⌜ r ≡ foundFlow k p (Code i n) ⌝ }
@@ -78,8 +105,8 @@ fn found(k: Site, p: u32, i: Instruction, n: usize) -> Flow
             Reach::Far(d) => branch(c, next, flow::target(next, Reach::Far(d)), 6),
         },
         Instruction::Jmp(to) => jump(p, to, 6),
-        Instruction::Bsr(_) => Flow::Stop(Refusal::NotFollowed(p)),
-        Instruction::Jsr(_) => Flow::Stop(Refusal::NotFollowed(p)),
+        Instruction::Bsr(reach) => near_call(k, next, reach),
+        Instruction::Jsr(to) => call(k, p, next, to),
         Instruction::Rts => returns(k),
     }
 }

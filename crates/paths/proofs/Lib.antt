@@ -1,5 +1,8 @@
 pub mod Laws
+pub mod Levels
+pub mod Owed
+pub mod Once
+pub mod Kept
 pub mod Rows
-pub mod Table
-pub mod Sound
 pub mod Ways
+pub mod Table

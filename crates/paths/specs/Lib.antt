@@ -1,3 +1,4 @@
 pub mod Paths
 pub mod Runs
+pub mod Levels
 pub mod MirrorRows

@@ -6,8 +6,10 @@ use lib.ListN.{drop}
 use Rattle.refusal.specs.declared.Outcome.the-variants.{Done}
 use Rattle.codes.specs.States.{goesOf}
 use Rattle.codes.specs.declared.Instruction.{Instruction}
-use Rattle.codes.specs.declared.Goes.the-variants.{Returns}
+use Rattle.codes.specs.declared.Goes.{Goes}
+use Rattle.codes.specs.declared.Goes.the-variants.{Onward, Branches, Jumps, CallsNear, Calls, Returns}
 use Rattle.codes.specs.declared.Decoded.the-variants.{Code}
+use Rattle.flow.specs.Targets.{nextOf}
 use Rattle.decoder.specs.MirrorDecode.{decodeOf}
 use Rattle.registers.specs.declared.Registers.{Registers}
 use Rattle.memory.specs.declared.Board.{Board}
@@ -19,7 +21,16 @@ pub record State : Type 0 where
   pub regs : Registers
   pub mem : List ℕ
 
--- on a board with the code `rom`; it is at a return where RTS stands at PC
+-- BSR and JSR
+abbrev pub Calling : Goes → Type 0
+Calling Onward = ⊥
+Calling (Branches c reach) = ⊥
+Calling (Jumps target) = ⊥
+Calling (CallsNear reach) = Unit {0}
+Calling (Calls target) = Unit {0}
+Calling Returns = ⊥
+
+-- on a board with the code `rom`; it is at a return where RTS stands at PC, and BSR and JSR push the address of the next instruction
 abbrev pub processor : Board → List ℕ → Machine
 processor b rom =
     record {
@@ -29,4 +40,7 @@ processor b rom =
       Refuses = λ s f. stepOf b rom (s .mem) (s .regs) ≡ after (stays (s .regs) f) (s .mem);
       AtReturn = λ s.
           (i : Instruction) × (n : ℕ) × (decodeOf (s .regs .pc) (drop (s .regs .pc) rom) ≡ Code i n) × (goesOf i ≡ Returns);
+      Pushes = λ s k.
+          (i : Instruction) × (n : ℕ) × (decodeOf (s .regs .pc) (drop (s .regs .pc) rom) ≡ Code i n) × Calling (goesOf i) × (k ≡ nextOf (s .regs .pc) n);
+      Leaves = λ s e. ⊥;
     }

@@ -5,9 +5,9 @@ use mathlib.Core.List.{List, _++_}
 use lib.Dec.{eqb}
 use lib.ListN.{length}
 use Rattle.refusal.specs.declared.Refusal.{Refusal}
-use Rattle.refusal.specs.declared.Refusal.the-variants.{BadBoard, FetchOutside, UnknownCode, CutShort, ReadOutside, WriteOutside, NoAdjustRow, BadEntry, NotFollowed, NotUpward, NotInstruction, BudgetTooLarge, LentTooShort, DivideFails, LeftOut, BadVersion, BadLength, Unfinished, ReplayEnded}
+use Rattle.refusal.specs.declared.Refusal.the-variants.{BadBoard, FetchOutside, UnknownCode, CutShort, ReadOutside, WriteOutside, NoAdjustRow, BadEntry, NotFollowed, NotUpward, NotInstruction, BudgetTooLarge, LentTooShort, DivideFails, LeftOut, TooDeep, BadVersion, BadLength, Unfinished, ReplayEnded, TooLong}
 use Rattle.paths.specs.declared.Flow.{Flow}
-use Rattle.paths.specs.declared.Flow.the-variants.{Next, Jump, Either, Ends, Stop}
+use Rattle.paths.specs.declared.Flow.the-variants.{Next, Jump, Either, Call, Ends, Stop}
 use Rattle.site.specs.Costs.{noPorts}
 use Rattle.listing.specs.Listing.{flowAt}
 use Rattle.text.specs.Lines.{ascii}
@@ -42,13 +42,14 @@ abbrev pub entryText : ℕ → ℕ → List ℕ
 entryText n p = ascii "8" ++ (atPlace p ++ (ascii "the entry is odd or outside the ROM, which has " ++ (decimalOf n ++ ascii " bytes")))
 
 abbrev pub followText : List ℕ → ℕ → List ℕ
-followText rom p = ascii "9" ++ (atPlace p ++ (standsAt rom p ++ ascii "; calls, and jumps by a register or a vector, are not followed"))
+followText rom p = ascii "9" ++ (atPlace p ++ (standsAt rom p ++ ascii "; calls and jumps by a register or a vector are not followed"))
 
 -- where a way that does not go up leads; ports change nothing there
 abbrev pub backOf : ℕ → Flow → ℕ
 backOf p (Next n s) = n
 backOf p (Jump t s) = t
 backOf p (Either n t s) = t
+backOf p (Call n t s) = n
 backOf p (Ends s) = p
 backOf p (Stop f) = p
 
@@ -68,6 +69,13 @@ groupName g =
 
 abbrev pub leftOutText : ℕ → ℕ → List ℕ
 leftOutText p g = ascii "15" ++ (atPlace p ++ (groupName g ++ (ascii ", group " ++ (decimalOf g ++ ascii ", which this set leaves out"))))
+
+-- document 02, W9: the ninth level, and a total above 1,000,000,000
+abbrev pub deepText : List ℕ → ℕ → List ℕ
+deepText rom p = ascii "16" ++ (atPlace p ++ (standsAt rom p ++ ascii " is a ninth level of calls; a routine that calls itself has no last one"))
+
+abbrev pub longText : ℕ → List ℕ
+longText p = ascii "22" ++ (atPlace p ++ ascii "the longest way takes more than 1000000000 states")
 
 -- of a replay; its place is a byte of the recording
 abbrev pub recordText : List ℕ → ℕ → List ℕ → List ℕ
@@ -89,7 +97,9 @@ refusalText rom BudgetTooLarge = ascii "12: the budget is over 1000000 steps"
 refusalText rom (LentTooShort n) = shortText n
 refusalText rom (DivideFails p) = divideText rom p
 refusalText rom (LeftOut x) = leftOutText (x % 2 ^ 24) (x / 2 ^ 24)
+refusalText rom (TooDeep p) = deepText rom p
 refusalText rom BadVersion = ascii "17: the recording's version is not 1"
 refusalText rom (BadLength p) = recordText (ascii "18") p (ascii "the length of the record is not 9")
 refusalText rom (Unfinished p) = recordText (ascii "19") p (ascii "the recording ends before the record does")
 refusalText rom ReplayEnded = ascii "20: the replay has ended"
+refusalText rom (TooLong p) = longText p

@@ -5,7 +5,7 @@ ghost use Rattle.site.specs.Costs.{noPorts};
 ghost use Rattle.listing.specs.Listing.{flowAt};
 ghost use Rattle.text.specs.Lines.{Adds};
 ghost use Rattle.wording.specs.Standing.{byteText, bytesAt, notHeldText, noCodeText, foundText, standsAt};
-ghost use Rattle.wording.specs.Refusals.{atPlace, outsideText, unknownText, cutText, readText, writeText, adjustText, divideText, entryText, followText, backOf, upwardText, shortText, groupName, leftOutText, recordText, refusalText};
+ghost use Rattle.wording.specs.Refusals.{atPlace, outsideText, unknownText, cutText, readText, writeText, adjustText, divideText, entryText, followText, backOf, upwardText, shortText, groupName, leftOutText, deepText, longText, recordText, refusalText};
 use codes::Decoded;
 use paths::Flow;
 use refusal::Refusal;
@@ -184,7 +184,7 @@ fn follow(l: Line, rom: &[u8], p: u32) -> Line
     let c = stands(b, rom, p);
     text::bytes(
         c,
-        b"; calls, and jumps by a register or a vector, are not followed",
+        b"; calls and jumps by a register or a vector are not followed",
     )
 }
 
@@ -196,6 +196,7 @@ fn back(p: u32, f: Flow) -> u32
         Flow::Next(n, _) => n,
         Flow::Jump(t, _) => t,
         Flow::Either(_, t, _) => t,
+        Flow::Call(n, _, _) => n,
         Flow::Ends(_) => p,
         Flow::Stop(_) => p,
     }
@@ -250,6 +251,26 @@ fn left_out(l: Line, p: u32, g: u32) -> Line
     text::bytes(e, b", which this set leaves out")
 }
 
+fn deep(l: Line, rom: &[u8], p: u32) -> Line
+    ensures { λ r. ⌜ Adds l (deepText (now (rom .entry)) p) r ⌝ }
+{
+    let a = text::bytes(l, b"16");
+    let b = at_place(a, p);
+    let c = stands(b, rom, p);
+    text::bytes(
+        c,
+        b" is a ninth level of calls; a routine that calls itself has no last one",
+    )
+}
+
+fn long(l: Line, p: u32) -> Line
+    ensures { λ r. ⌜ Adds l (longText p) r ⌝ }
+{
+    let a = text::bytes(l, b"22");
+    let b = at_place(a, p);
+    text::bytes(b, b"the longest way takes more than 1000000000 states")
+}
+
 // Of a replay; its place is a byte of the recording.
 fn recorded(l: Line, number: &[u8], p: u32, what: &[u8]) -> Line
     ensures { λ r. ⌜ Adds l (recordText (now (number .entry)) p (now (what .entry))) r ⌝ }
@@ -287,6 +308,7 @@ pub fn refusal(l: Line, rom: &[u8], f: Refusal) -> Line
         Refusal::LentTooShort(n) => short(l, n),
         Refusal::DivideFails(p) => divide(l, rom, p),
         Refusal::LeftOut(x) => left_out(l, x % 16777216, x / 16777216),
+        Refusal::TooDeep(p) => deep(l, rom, p),
         Refusal::BadVersion => text::bytes(l, b"17: the recording's version is not 1"),
         Refusal::BadLength(p) => recorded(l, b"18", p, b"the length of the record is not 9"),
         Refusal::Unfinished(p) => recorded(
@@ -296,5 +318,6 @@ pub fn refusal(l: Line, rom: &[u8], f: Refusal) -> Line
             b"the recording ends before the record does",
         ),
         Refusal::ReplayEnded => text::bytes(l, b"20: the replay has ended"),
+        Refusal::TooLong(p) => long(l, p),
     }
 }

@@ -5,7 +5,8 @@ use denote.Ref.{now}
 use borrow.Author.Needs.{needs}
 use borrow.Author.Tests.{eq-eqb, ne-eqb, lt-ltb, le-ltb, le-leb, lt-leb}
 use Rattle.figure.specs.Answer.{askedOf}
-use Rattle.figure.proofs.Answered.{off, on, small}
+use Rattle.levels.proofs.Filled.{off, on}
+use Rattle.figure.proofs.Answered.{small}
 use Rattle.figure.proofs.look.Statement.{statement}
 use Rattle.figure.proofs.look.Tie as tie
 

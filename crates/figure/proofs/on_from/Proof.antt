@@ -8,6 +8,8 @@ pub on-from-spec : {M : Type 1} → statement M
 unfolding onFrom
 on-from-spec =
     tie.close
-    (tie.spec (λ c κs. search needs) (λ c κs. search needs)
+    (tie.spec (λ c κs. search needs)
+    (λ c κs. search needs)
     (λ c. simp (eq-eqb _ _ (c .before .before .if1 .taken), ← c .before .flow-at .ensures) (c .onward .ensures))
-    (λ c κs. search needs) (λ c. simp (ne-eqb _ _ (c .before .if1 .left), c .why-at .ensures)))
+    (λ c κs. search needs)
+    (λ c. simp (ne-eqb _ _ (c .before .if1 .left), c .no-way .ensures)))

@@ -8,5 +8,7 @@ pub told-spec : {M : Type 1} → statement M
 unfolding verdictOf
 told-spec =
     tie.close
-    (tie.spec (λ c. simp (eq-eqb _ _ (c .if1 .taken))) (λ c κs. search needs)
+    (tie.spec (λ c κs. search needs)
+    (λ c. simp (eq-eqb _ _ (c .before .if1 .taken)) (c .held .ensures))
+    (λ c κs. search needs)
     (λ c. simp (ne-eqb _ _ (c .before .if1 .left), c .why-at .ensures)))

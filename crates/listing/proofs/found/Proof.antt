@@ -1,7 +1,7 @@
 use mathlib.Core.Path.{refl}
 use Rattle.timing.specs.Made.{baseOf, mostOf}
 use Rattle.listing.specs.Listing.{foundFlow, goesFlow}
-use Rattle.listing.proofs.Counted.{goes-none, goes-move, goes-read, goes-written, goes-jump}
+use Rattle.listing.proofs.Counted.{goes-none, goes-move, goes-read, goes-written, goes-jump, goes-near, goes-call}
 use borrow.Author.Needs.{needs}
 use Rattle.listing.proofs.found.Statement.{statement}
 use Rattle.listing.proofs.found.Tie as tie
@@ -15,8 +15,8 @@ found-spec =
     (λ c. search needs) (λ c κs. search needs) (λ c. search needs) (λ c κs. search needs) (λ c. search needs) (λ c κs. search needs) (λ c. search needs) (λ c κs. search needs)
     (λ c κs. search needs) (λ c. search needs) (λ c κs. search needs) (λ c κs. search needs) (λ c. search needs) (λ c κs. search needs) (λ c κs. search needs) (λ c. search needs)
     (λ c κs. search needs) (λ c κs. search needs) (λ c. search needs) (λ c κs. search needs) (λ c κs. search needs) (λ c. search needs) (λ c. search needs) (λ c κs. search needs)
-    (λ c κs. search needs) (λ c. search needs) (λ c κs. search needs) (λ c κs. search needs) (λ c. search needs) (λ c κs. search needs) (λ c. search needs) (λ c. search needs)
-    (λ c. search needs) (λ c κs. search needs)
+    (λ c κs. search needs) (λ c. search needs) (λ c κs. search needs) (λ c κs. search needs) (λ c. search needs) (λ c κs. search needs) (λ c. search needs) (λ c κs. search needs)
+    (λ c. search needs) (λ c κs. search needs) (λ c. search needs) (λ c κs. search needs)
     (λ c. simp (c .before .enum-told .given .1, c .onward .ensures, c .before .before .before .next .ensures))
     (λ c. simp (c .before .enum-told2 .given .1, c .onward2 .ensures, c .before .before .before .next .ensures))
     (λ c. simp (c .before .enum-told3 .given .1, c .onward3 .ensures, c .before .before .before .next .ensures))
@@ -53,6 +53,6 @@ found-spec =
     (λ c. let l = c .before .before .before in simp (l .reach .given .1, l .before .before .before .i7 .given .1, c .branch .ensures, c .before .target .ensures, l .before .before .before .before .before .next .ensures))
     (λ c. let l = c .before .before .before in simp (l .reach2 .given .1, l .before .before .before .i7 .given .1, c .branch2 .ensures, c .before .target2 .ensures, l .before .before .before .before .before .next .ensures))
     (λ c. let a = c .before .before .before .before .before .args in goes-jump (a .k) (a .p) (a .n) (c .before .before .i8 .given .1) (c .jump .ensures))
-    (λ c. rw (c .enum-told10 .given .1))
-    (λ c. rw (c .enum-told11 .given .1))
-    (λ c. rw (c .before .enum-told12 .given .1) (c .returns .ensures)))
+    (λ c. let l = c .before .before in let a = l .before .before .before .args in goes-near (a .k) (a .p) (a .n) (l .i9 .given .1) (l .before .before .next .ensures) (c .near-call .ensures))
+    (λ c. let l = c .before .before in let a = l .before .before .before .args in goes-call (a .k) (a .p) (a .n) (l .i10 .given .1) (l .before .before .next .ensures) (c .call .ensures))
+    (λ c. rw (c .before .enum-told10 .given .1) (c .returns .ensures)))

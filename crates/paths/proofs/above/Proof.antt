@@ -5,4 +5,7 @@ use Rattle.paths.proofs.above.Tie as tie
 pub above-spec : {M : Type 1} → statement M
 above-spec =
     tie.close
-    (tie.spec (λ c κs. search needs) (λ c κs. search needs) (λ c κs. search needs) (λ c. cc))
+    (tie.spec (λ c κs. search needs)
+    (λ c κs. search needs)
+    (λ c κs. search needs)
+    (λ c. cc))

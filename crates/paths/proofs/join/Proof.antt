@@ -7,4 +7,6 @@ pub join-spec : {M : Type 1} → statement M
 unfolding joined
 join-spec =
     tie.close
-    (tie.spec (λ c κs. search needs) (λ c κs. search needs) (λ c κs. search needs) (λ c κs. search needs) (λ c. cc))
+    (tie.spec (λ c κs. search needs)
+    (λ c κs. search needs)
+    (λ c. cc))

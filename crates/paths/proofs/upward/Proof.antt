@@ -7,6 +7,8 @@ pub upward-spec : {M : Type 1} → statement M
 unfolding upwardOf
 upward-spec =
     tie.close
-    (tie.spec (λ c κs. search needs) (λ c κs. search needs) (λ c κs. search needs)
+    (tie.spec (λ c κs. search needs)
+    (λ c κs. search needs)
+    (λ c κs. search needs)
     (λ c. simp (← c .before .before .goes-back .ensures, c .before .if1 .taken) (c .bar .ensures))
     (λ c. simp (← c .before .before .goes-back .ensures, c .before .if1 .left) (c .above .ensures)))

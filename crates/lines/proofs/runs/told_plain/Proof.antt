@@ -6,6 +6,5 @@ use Rattle.lines.proofs.runs.told_plain.Tie as tie
 pub told-plain-spec : {M : Type 1} → statement M
 told-plain-spec =
     tie.close
-    (tie.spec (λ c. search needs) (λ c. search needs) (λ c κs. search needs) (λ c. search needs)
-    (λ c κs. search needs) (λ c κs. search needs)
-    (λ c. more (c .before .before .before .number .ensures) (more (c .before .number2 .ensures) (c .why-plain .ensures))))
+    (tie.spec (λ c κs. search needs) (λ c κs. search needs)
+    (λ c. more (c .before .counts-plain .ensures) (c .why-plain .ensures)))

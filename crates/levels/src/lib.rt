@@ -1,0 +1,103 @@
+// What paths and calls cost, for every place of read-only memory: document 02, W9. "A path asks what its calls cost, and a call asks for the longest path of
+// the routine it enters": `path_cost` and `call_cost` call each other, remaining depth and then remaining places falling. Of a place's two numbers in the
+// table each has one level's row, packed: even depths in the first, odd ones in the second, for a level needs only itself and the one below.
+use paths::Reckoned;
+use site::Site;
+ghost use mathlib.Core.Path.{_≡_};
+ghost use Prim.Native.Nat.{_+_, _-_, _*_, _<_, _≤_};
+ghost use lib.ListN.{length};
+ghost use Rattle.paths.specs.MirrorRows.{packedOf, levelOf, reckonedOf};
+ghost use Rattle.paths.specs.Levels.{LevelFrom};
+ghost use Rattle.listing.specs.Listing.{flowAt};
+ghost use Rattle.levels.specs.Levels.{fitting, FilledIf, Callees, Lent, Costed, Reached, Unpacked};
+
+const DEPTH: u32 = 8;
+
+// The row of the place p with `depth` levels of calls left, packed.
+fn row(k: Site, rom: &[u8], table: &[u64], depth: u32, p: u32) -> u64
+    ensures { λ r. ⌜ r ≡ packedOf (reckonedOf (levelOf (length (now (rom .entry))) (now (table .entry)) depth) (levelOf (length (now (rom .entry))) (now (table .entry)) (depth - 1)) depth p (flowAt k (now (rom .entry)) p)) ⌝ }
+{
+    let f = listing::glance(k, rom, p);
+    let r = paths::reckon(rom.len(), table, depth, p, f);
+    paths::packed(r)
+}
+
+// Fills the rows of `more` places below the highest `done`: by halves, so that the stack does not grow with the memory. Before the first row of a level it
+// asks what calls cost there.
+fn path_cost(k: Site, rom: &[u8], table: &mut [u64], depth: u32, done: usize, more: usize)
+    requires { ⌜ Lent (length (now rom)) (length (now table)) depth × ((done + more) * 2 ≤ length (now rom)) ⌝ }
+    requires { ⌜ (0 < done → Callees (flowAt k (now rom)) (length (now rom)) (now table) depth × LevelFrom (flowAt k (now rom)) (length (now rom)) (now table) depth (length (now rom) - done * 2)) ⌝ }
+    ensures { λ r. ⌜ Reached (flowAt k (now (rom .entry))) (length (now (rom .entry))) depth (length (now (rom .entry)) - (done + more) * 2) (now (table .entry)) (now (table .exit)) ⌝ }
+{
+    if more == 0 {
+        if done == 0 {
+            call_cost(k, rom, table, depth);
+        }
+        return;
+    }
+    if more == 1 {
+        path_cost(k, rom, table, depth, done, 0);
+        let p = rom.len() - (done + 1) * 2;
+        let r = row(k, rom, table, depth, p as u32);
+        let at = p + (depth % 2) as usize;
+        table[at] = r;
+        return;
+    }
+    let half = more / 2;
+    path_cost(k, rom, table, depth, done, half);
+    path_cost(k, rom, table, depth, done + half, more - half);
+}
+
+// What calls cost with `depth` levels left: the longest paths of all routines, with a level less. With none left a call costs nothing: it is forbidden.
+fn call_cost(k: Site, rom: &[u8], table: &mut [u64], depth: u32)
+    requires { ⌜ Lent (length (now rom)) (length (now table)) depth ⌝ }
+    ensures { λ r. ⌜ Costed (flowAt k (now (rom .entry))) (length (now (rom .entry))) depth (now (table .entry)) (now (table .exit)) ⌝ }
+{
+    if depth == 0 {
+        return;
+    }
+    let words = rom.len() / 2;
+    path_cost(k, rom, table, depth - 1, 0, words);
+}
+
+// From the packed rows with eight levels left the two numbers of each place.
+fn unpack(len: usize, table: &mut [u64])
+    requires { ⌜ Lent len (length (now table)) 8 ⌝ }
+    ensures { λ r. ⌜ Unpacked len (now (table .entry)) (now (table .exit)) ⌝ }
+{
+    let mut p = len;
+    while 0 < p {
+        p -= 2;
+        let at = p as u32;
+        let held = paths::level_row(len, table, DEPTH, at);
+        let r = paths::shown(at, held);
+        let figure = r.figure;
+        let low = r.low;
+        table[p] = figure;
+        table[p + 1] = low;
+    }
+}
+
+fn fits(len: usize, lent: usize, entry: u32) -> bool
+    ensures { λ r. ⌜ r ≡ fitting len lent entry ⌝ }
+{
+    (len % 2 == 0) & (len <= 524288) & (len <= lent) & (entry % 2 == 0)
+}
+
+// Fills the table, and answers the row of `entry` with eight levels left, in which a total is held at 1,000,000,001.
+pub fn fill(k: Site, rom: &[u8], entry: u32, table: &mut [u64]) -> Reckoned
+    ensures { λ r. ⌜ FilledIf (fitting (length (now (rom .entry))) (length (now (table .entry))) entry) (flowAt k (now (rom .entry))) (length (now (rom .entry))) entry (now (table .entry)) r (now (table .exit)) ⌝ }
+{
+    let len = rom.len();
+    let fit = fits(len, table.len(), entry);
+    if !fit {
+        return Reckoned {
+            figure: 0,
+            low: entry as u64,
+        };
+    }
+    path_cost(k, rom, table, DEPTH, 0, len / 2);
+    let r = paths::level_row(len, table, DEPTH, entry);
+    unpack(len, table);
+    r
+}

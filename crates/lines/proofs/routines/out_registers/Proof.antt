@@ -1,0 +1,12 @@
+use Rattle.lines.specs.Routines.{routineHeld}
+use borrow.Author.Needs.{needs}
+use Rattle.lines.proofs.routines.out_registers.Statement.{statement}
+use Rattle.lines.proofs.routines.out_registers.Tie as tie
+
+pub out-registers-spec : {M : Type 1} → statement M
+unfolding routineHeld
+out-registers-spec =
+    tie.close
+    (tie.spec (λ c κs. search needs) (λ c κs. search needs) (λ c. search needs) (λ c κs. search needs)
+    (λ c. rw (← (c .before .before .was-begun .ensures), c .before .if1 .taken) (c .held .ensures))
+    (λ c. rw (← (c .before .before .before .was-begun .ensures), c .before .before .if1 .left) (c .bytes .ensures)))

@@ -1,0 +1,3 @@
+pub mod Routine
+pub mod Repeated
+pub mod MirrorTurn

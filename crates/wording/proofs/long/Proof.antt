@@ -1,0 +1,11 @@
+use Rattle.text.proofs.Adding.{more}
+use borrow.Author.Needs.{needs}
+use Rattle.wording.proofs.long.Statement.{statement}
+use Rattle.wording.proofs.long.Tie as tie
+
+pub long-spec : {M : Type 1} → statement M
+long-spec =
+    tie.close
+    (tie.spec (λ c. search needs) (λ c κs. search needs) (λ c κs. search needs) (λ c. search needs)
+    (λ c κs. search needs)
+    (λ c. more (c .before .before .before .bytes .ensures) (more (c .before .before .at-place .ensures) (c .bytes2 .ensures))))
