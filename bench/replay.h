@@ -27,12 +27,6 @@ size_t random_recording(struct board *b, uint8_t *ram, uint32_t regs[10], uint8_
 enum { FIXED_RECORDS = 12, FIXED_RAM = 16 };
 size_t fixed_recording(struct board *b, uint8_t *ram, uint32_t regs[10], uint8_t *file);
 
-/* A recording of a loop of so many instructions of two bytes, from PC 0 and condition byte 0, written out: the states of each and of the
-   last, and the condition byte behind the first. There is room for one more record than `records`; states and PC are those behind them. */
-enum { LOOP_MOST = 1000000 };
-struct loop { uint32_t length, each, last, condition; };
-uint8_t *loop_recording(const struct loop *l, uint32_t records, uint64_t *states, uint32_t *pc);
-
 int same_answer(const uint64_t *answer, uint32_t got, const struct replayed *m);
 void show_answer(const char *title, const uint64_t *answer);
 void show_replayed(const char *title, const struct replayed *m);

@@ -226,7 +226,7 @@ static uint32_t spoil_place(const struct bits *b, uint32_t got, uint8_t *ram, si
     if (FAULT == 45 && got == 6)                                                    /* a refused step has gone on */
         b->regs[H8_PC] += 4;
     if (FAULT == 46 && !gives && b->address < 8 && got == 0)                        /* a reader refused in read-only memory */
-        return b->answer[0] = 6, b->answer[1] = b->address, b->answer[3] = 0, memcpy(b->regs, b->was, 40), 6;
+        return memset(b->answer, 0, 4 * H8_STEP_ANSWER), b->answer[1] = b->address, memcpy(b->regs, b->was, 40), b->answer[0] = 6;
     if (FAULT == 47 && gives && got == 0 && b->address & 1 && b->cell) {            /* the address is made even */
         uint8_t now = *b->cell;
         *b->cell = b->cell_was;
@@ -250,7 +250,7 @@ static uint32_t bit_step(const uint32_t *board, size_t board_n, const uint8_t *r
         b.cell = b.f[H8_FORM] == H8_SPOT_REG || b.address - base >= ram_n ? NULL : ram + (b.address - base);
         b.cell_was = b.cell ? *b.cell : 0;
     }
-    uint32_t got = plain_step(board, board_n, rom, rom_n, ram, ram_n, regs, 10, answer, 4);
+    uint32_t got = plain_step(board, board_n, rom, rom_n, ram, ram_n, regs, 10, answer, H8_STEP_ANSWER);
     if (!known || got == 1)
         return got;
     if (got == 0)
@@ -307,8 +307,9 @@ static uint32_t one_step(const uint32_t *board, size_t board_n, const uint8_t *r
 static uint32_t left_step(const uint32_t *board, size_t board_n, const uint8_t *rom, size_t rom_n, uint8_t *ram, size_t ram_n,
                           uint32_t *regs, size_t regs_n, uint32_t *answer, size_t answer_n)
 {
-    uint32_t was = answer_n >= 4 ? answer[2] : 0, got = plain_step(board, board_n, rom, rom_n, ram, ram_n, regs, regs_n, answer, answer_n);
-    if (answer_n < 4)
+    uint32_t was = answer_n >= H8_STEP_ANSWER ? answer[2] : 0;
+    uint32_t got = plain_step(board, board_n, rom, rom_n, ram, ram_n, regs, regs_n, answer, answer_n);
+    if (answer_n < H8_STEP_ANSWER)
         return got;
     uint32_t group = answer[2];
     if (got)
@@ -430,19 +431,100 @@ static void reckon_again(const uint32_t *board, const uint8_t *rom, uint32_t n, 
     }
 }
 
+/* WHAT A STEP TOUCHED, with the faults of it. */
+static uint32_t *entry_of(uint32_t *answer, uint32_t i) { return answer + H8_ACCESSES + H8_ACCESS * i; }
+
+static void set_entry(uint32_t *answer, uint32_t i, uint32_t address, uint32_t bytes, uint32_t write)
+{
+    uint32_t *e = entry_of(answer, i);
+    e[H8_ADDRESS] = address;
+    e[H8_BYTES] = bytes;
+    e[H8_WRITE] = write;
+}
+
+/* Entry i is left out. */
+static void drop_entry(uint32_t *answer, uint32_t i)
+{
+    memmove(entry_of(answer, i), entry_of(answer, i + 1), 4 * H8_ACCESS * (3 - i));
+    set_entry(answer, 3, 0, 0, 0);
+    answer[H8_COUNT]--;
+}
+
+/* Of a completed step: f is the instruction, `was` the registers before. */
+static void spoil_list(const uint32_t *f, const uint32_t *was, uint32_t *answer)
+{
+    uint32_t n = answer[H8_COUNT], *first = entry_of(answer, 0), *second = entry_of(answer, 1), swap[2 * H8_ACCESS];
+    int moves = f[H8_KIND] == H8_MOVE, wide = moves && f[H8_WIDTH] != H8_BYTE, by_er = moves && f[H8_FORM] == H8_AT;
+    (void)swap, (void)second, (void)wide, (void)by_er;
+    if (FAULT == 79 && moves && f[H8_WIDTH] == H8_LONG)                             /* a longword as one entry */
+        drop_entry(answer, 1), first[H8_BYTES] = 4;
+    if (FAULT == 80 && f[H8_KIND] == H8_GIVE && n == 2)                             /* BSET listed once, as a write */
+        drop_entry(answer, 0);
+    if (FAULT == 81 && f[H8_KIND] == H8_JSR && n == 4) {                            /* JSR's writes first */
+        memcpy(swap, first, sizeof swap);
+        memmove(first, entry_of(answer, 2), sizeof swap);
+        memcpy(entry_of(answer, 2), swap, sizeof swap);
+    }
+    if (FAULT == 83 && wide && by_er)                                               /* an odd word address */
+        first[H8_ADDRESS] |= was[f[H8_OTHER]] & 1;
+    if (FAULT == 84 && moves && f[H8_FORM] == H8_STEP && f[H8_WHICH] == H8_STORE)   /* @-ER, not lowered */
+        first[H8_ADDRESS] = was[f[H8_OTHER]] & (f[H8_WIDTH] ? 0xFFFFFE : 0xFFFFFF);
+    if (FAULT == 85 && n == 2 && second[H8_ADDRESS] == 0 && first[H8_ADDRESS] == 0xFFFFFE)      /* not modulo 2^24 */
+        second[H8_ADDRESS] = 0x1000000;
+    if (FAULT == 86 && f[H8_KIND] == H8_RTS)                                        /* RTS has no list, as if its words were fetched */
+        drop_entry(answer, 1), drop_entry(answer, 0);
+    if (FAULT == 87 && f[H8_KIND] == H8_RTS)                                        /* reads told as writes */
+        first[H8_WRITE] = second[H8_WRITE] = 1;
+    if (FAULT == 88 && f[H8_KIND] == H8_BSR)                                        /* a push with its lower word first */
+        first[H8_ADDRESS] ^= second[H8_ADDRESS], second[H8_ADDRESS] ^= first[H8_ADDRESS], first[H8_ADDRESS] ^= second[H8_ADDRESS];
+    if (FAULT == 91 && n < 4)                                                       /* the code's own place is listed too */
+        set_entry(answer, n, was[H8_PC], 2, 0), answer[H8_COUNT]++;
+    if (FAULT == 92 && n && answer[3] > f[H8_STATES])                               /* the states leave a port's last entry out */
+        answer[3]--;
+    if (FAULT == 93 && f[H8_KIND] == H8_TAKE && n)                                  /* a bit's byte told as a word */
+        first[H8_BYTES] = 2;
+}
+
+static uint32_t listed_step(const uint32_t *board, size_t board_n, const uint8_t *rom, size_t rom_n, uint8_t *ram, size_t ram_n,
+                            uint32_t *regs, size_t regs_n, uint32_t *answer, size_t answer_n)
+{
+    uint32_t was[10] = {0}, full[H8_STEP_ANSWER], kept[H8_STEP_ANSWER] = {0};
+    struct decoded d;
+    if (answer_n < (FAULT == 90 ? 4 : H8_STEP_ANSWER))                              /* 90: an answer of four numbers is enough */
+        return 13;
+    if (regs_n >= 10)
+        memcpy(was, regs, sizeof was);
+    memcpy(kept, answer, 4 * (answer_n < H8_STEP_ANSWER ? answer_n : H8_STEP_ANSWER));
+    uint32_t got = plain_step(board, board_n, rom, rom_n, ram, ram_n, regs, regs_n, full, H8_STEP_ANSWER);
+    start();
+    int known = got != 1 && got != 13 && was[8] < rom_n && decode(rom + was[8], rom_n - was[8], &d) == 0;
+    if (known && got == 0)
+        spoil_list(d.fields, was, full);
+    if (FAULT == 82 && known && got == 6 && d.fields[H8_KIND] == H8_GIVE)           /* a list after a refusal */
+        set_entry(full, 0, full[1], 1, 0), full[H8_COUNT] = 1;
+    if (FAULT == 89)                                                                /* entries that are not used stay */
+        memcpy(entry_of(full, full[H8_COUNT]), entry_of(kept, full[H8_COUNT]), 4 * H8_ACCESS * (4 - full[H8_COUNT]));
+    if (FAULT == 94 && answer_n > H8_STEP_ANSWER)                                   /* an eighteenth number is written */
+        answer[H8_STEP_ANSWER] = 0;
+    memcpy(answer, full, 4 * (answer_n < H8_STEP_ANSWER ? answer_n : H8_STEP_ANSWER));
+    return got;
+}
+
 uint32_t h8_step(const uint32_t *board, size_t board_n, const uint8_t *rom, size_t rom_n, uint8_t *ram, size_t ram_n,
                  uint32_t *regs, size_t regs_n, uint32_t *answer, size_t answer_n)
 {
+    if (FAULT >= 79 && FAULT <= 94)
+        return listed_step(board, board_n, rom, rom_n, ram, ram_n, regs, regs_n, answer, answer_n);
     if (FAULT >= 63)
         return port_step(board, board_n, rom, rom_n, ram, ram_n, regs, regs_n, answer, answer_n);
     if (FAULT >= 49)
         return left_step(board, board_n, rom, rom_n, ram, ram_n, regs, regs_n, answer, answer_n);
-    if (FAULT >= 28 && regs_n >= 10 && answer_n >= 4)
+    if (FAULT >= 28 && regs_n >= 10 && answer_n >= H8_STEP_ANSWER)
         return bit_step(board, board_n, rom, rom_n, ram, ram_n, regs, answer);
     if ((FAULT >= 6 && FAULT <= 15) || (FAULT >= 25 && FAULT <= 27))
         return one_step(board, board_n, rom, rom_n, ram, ram_n, regs, regs_n, answer, answer_n);
-    if (FAULT == 16 && regs_n == 10 && answer_n >= 4 && rom_n == 524288)            /* the longest memory refused */
-        return answer[0] = 1, answer[1] = answer[2] = answer[3] = 0, 1;
+    if (FAULT == 16 && regs_n == 10 && answer_n >= H8_STEP_ANSWER && rom_n == 524288)           /* the longest memory refused */
+        return memset(answer, 0, 4 * H8_STEP_ANSWER), answer[0] = 1;
     if (FAULT == 17 && regs_n > 10)                                                 /* writes past the registers */
         regs[10] = 0;
     return plain_step(board, board_n, rom, rom_n, ram, ram_n, regs, regs_n, answer, answer_n);
@@ -632,13 +714,13 @@ struct going {
     size_t rom_n;
     uint8_t *ram;
     size_t ram_n;
-    uint32_t *regs, kept[H8_KEPT_MAX + 1], count, told[4];
+    uint32_t *regs, kept[H8_KEPT_MAX + 1], count, told[H8_STEP_ANSWER];
     uint64_t steps, states;
 };
 
 static uint32_t try_step(struct going *g, uint8_t *ram, uint32_t *regs)
 {
-    return plain_step(g->board, g->board_n, g->rom, g->rom_n, ram, g->ram_n, regs, 10, g->told, 4);
+    return plain_step(g->board, g->board_n, g->rom, g->rom_n, ram, g->ram_n, regs, 10, g->told, H8_STEP_ANSWER);
 }
 
 /* One step: -1, or the ending. */
@@ -719,11 +801,12 @@ uint32_t h8_routine(const uint32_t *board, size_t board_n, const uint8_t *rom, s
     return (uint32_t)answer[0];
 }
 
-/* REPLAY, byte by byte: where it stands, and the part of a record that is read, as numbers. */
+/* REPLAY, byte by byte: where it stands, and the part of a record that is read. */
 enum stage { VERSION, RECORDS, TOLD, CLOSED };
 struct standing {
-    uint32_t *regs, steps, stage, count, length, pc, condition, recorded, number, place, group, report, field;
+    uint32_t *regs, steps, stage, count, number, place, group, report, field;
     uint64_t states;
+    uint8_t part[H8_RECORD];
 };
 struct replay_board {
     const uint32_t *board;
@@ -746,19 +829,14 @@ static uint32_t step_once(const struct replay_board *b, uint32_t *regs, uint64_t
     return plain_run(b->board, b->board_n, b->rom, b->rom_n, b->ram, b->ram_n, regs, 10, 0xFFFFFFFF, 1, answer, 6);
 }
 
-/* Where the next record begins. Steps and bytes of a record are counted by their remainder by 2^24. */
-static uint32_t record_begins(const struct standing *s)
-{
-    return H8_RECORD * (FAULT == 188 ? s->steps : s->steps % 16777216) + 1;         /* 188: any steps are counted */
-}
-
-static void no_part(struct standing *s) { s->count = s->length = s->pc = s->condition = s->recorded = 0; }
+static uint32_t part_long(const uint8_t *p) { return (uint32_t)p[0] << 24 | (uint32_t)p[1] << 16 | (uint32_t)p[2] << 8 | p[3]; }
 
 static void take_record(struct standing *s, const struct replay_board *b)
 {
     uint64_t answer[6], here = FAULT == 150 ? s->states & 0xFFFFFF : s->states;     /* 150: the states wrap at 2^24 */
-    int pc = s->pc != s->regs[H8_PC], condition = s->condition != s->regs[H8_CONDITION], states = s->recorded != here;
-    no_part(s);
+    int pc = part_long(s->part + 2) != s->regs[H8_PC], condition = s->part[6] != s->regs[H8_CONDITION];
+    int states = part_long(s->part + 7) != here;
+    s->count = 0;
     s->field = pc ? H8_FIELD_PC : condition ? H8_FIELD_CONDITION : states ? H8_FIELD_STATES : H8_NO_FIELD;
     if (FAULT == 141 && condition && states && !pc)                                 /* states before the condition byte */
         s->field = H8_FIELD_STATES;
@@ -776,21 +854,13 @@ static void take_record(struct standing *s, const struct replay_board *b)
         s->steps += FAULT == 147;                                                   /* a refused step is counted */
         return;
     }
-    s->steps = (FAULT == 189 ? s->steps : s->steps % 16777216) + 1;                 /* 189: in 32 bits */
+    s->steps++;
     s->states += answer[4];
-}
-
-/* One byte more of a record: two of its length, four of PC, the condition byte, four of states. */
-static void grow_part(struct standing *s, uint8_t x)
-{
-    uint32_t *number = s->count < 2 ? &s->length : s->count < 6 ? &s->pc : s->count < 7 ? &s->condition : &s->recorded;
-    *number = number == &s->condition ? x : *number << 8 | x;
-    s->count = (FAULT == 195 ? s->count : s->count % 16777216) + 1;                 /* 195: in 32 bits */
 }
 
 static void take_byte(struct standing *s, const struct replay_board *b, uint8_t x)
 {
-    uint32_t seen = FAULT == 143 ? H8_RECORD : FAULT == 148 ? 1 : 2, begun = s->count != 0;
+    uint32_t begins = H8_RECORD * s->steps + 1, seen = FAULT == 143 ? H8_RECORD : FAULT == 148 ? 1 : 2;
     if (s->stage == TOLD)
         return;
     if (s->stage == VERSION) {
@@ -799,23 +869,23 @@ static void take_byte(struct standing *s, const struct replay_board *b, uint8_t 
             tell_halted(s, 17, 0);
         return;
     }
-    uint32_t spent = FAULT == 187 ? s->steps == 1000000 : s->steps >= 1000000;      /* 187: 12 at 1,000,000 steps alone */
-    grow_part(s, x);
-    if (spent && (FAULT == 144 ? s->count == H8_RECORD : !begun))                   /* 144: 12 at a whole record only */
+    s->part[s->count++] = x;
+    if (s->steps == 1000000 && s->count == (FAULT == 144 ? H8_RECORD : 1))          /* 144: 12 at a whole record only */
         tell_halted(s, 12, 0);
-    else if ((s->count == seen || (s->count == 2 && seen < 2)) && s->length != (s->count == 1 ? 0 : 9))
-        tell_halted(s, 18, record_begins(s) + (FAULT == 145 ? H8_RECORD : 0));      /* 143: looked for after eleven, 148: after one */
+    else if ((s->count == seen || s->count == 2) && s->count >= seen && (s->part[0] || (s->count > 1 && s->part[1] != 9)))
+        tell_halted(s, 18, begins + (FAULT == 145 ? H8_RECORD : 0));                /* 143: looked for after eleven, 148: after one */
     else if (s->count == H8_RECORD)                                                 /* 145: a record late */
         take_record(s, b);
 }
 
 /* The report at the end. */
-static void close_standing(struct standing *s)
+static void close_standing(struct standing *s, size_t file_n)
 {
+    uint32_t begins = s->stage == VERSION ? 0 : H8_RECORD * s->steps + 1;
     if (s->stage == VERSION && FAULT != 149)                                        /* 149: an empty file agrees */
         tell_halted(s, 19, 0);
     if (s->stage == RECORDS && s->count)
-        tell_halted(s, 19, record_begins(s) + (FAULT == 152 ? s->count : 0));       /* 152: where the file ends */
+        tell_halted(s, 19, FAULT == 152 ? (uint32_t)file_n : begins);               /* 152: where the file ends */
     s->stage = CLOSED;
 }
 
@@ -824,11 +894,6 @@ static uint32_t tell_standing(const struct standing *s, uint64_t *answer)
     const uint64_t told[] = {s->number, s->place, s->group, s->steps, s->states, s->report, s->field};
     memcpy(answer, told, sizeof told);
     return s->number;
-}
-
-static uint32_t tell_short(uint32_t needed, uint64_t *answer)
-{
-    return tell_standing(&(struct standing){.number = 13, .place = needed, .report = H8_HALTED}, answer);
 }
 
 static struct standing begin_standing(const struct replay_board *b, uint32_t *regs)
@@ -848,7 +913,7 @@ uint32_t h8_replay(const uint32_t *board, size_t board_n, const uint8_t *rom, si
     if (answer_n < 7)
         return 13;
     if (regs_n < 10)
-        return tell_short(10, answer);
+        return tell_standing(&(struct standing){.number = 13, .place = 10, .report = H8_HALTED}, answer);
     struct standing s = begin_standing(&b, regs);
     if (FAULT == 154 && s.number == 1 && file_n && file[0] != 1)                    /* the version before the board */
         tell_halted(&s, 17, 0);
@@ -858,168 +923,8 @@ uint32_t h8_replay(const uint32_t *board, size_t board_n, const uint8_t *rom, si
             memcpy(before, regs, sizeof before);
         take_byte(&s, &b, file[i]);
     }
-    close_standing(&s);
+    close_standing(&s, file_n);
     if (FAULT == 151 && s.report == H8_AGREED)                                      /* no step after the last record */
         memcpy(regs, before, sizeof before);
-    return tell_standing(&s, answer);
-}
-
-/* A REPLAY IN CUTS: the same, kept in the lent numbers between two calls; its registers are those numbers. */
-static uint32_t has_no_place(uint32_t number) { return number == 1 || number == 11 || number == 12 || number == 17 || number == 20; }
-
-static void read_refusal(struct standing *s, const uint32_t *told)
-{
-    uint32_t number = told[2], known = number >= 1 && number <= 22 && number != (FAULT == 175 ? 23 : 21);   /* 175: 21 is held */
-    s->number = known ? number : 1;
-    s->place = has_no_place(s->number) && FAULT != 176 ? 0 : told[3];               /* 176: a place with each */
-    if (s->number == 15) {
-        s->place = FAULT == 177 ? told[3] : told[3] % 16777216;                     /* 177: place and group as they stand */
-        s->group = FAULT == 177 ? told[4] : told[4] % 256;
-    }
-    if (FAULT == 178)                                                               /* the group is not kept */
-        s->group = 0;
-}
-
-static void read_told(struct standing *s, const uint32_t *told)
-{
-    s->report = told[0] < H8_HALTED ? told[0] : FAULT == 173 ? told[0] % 3 : H8_HALTED;         /* 173: by its remainder */
-    if (s->report == H8_DIFFERS)
-        s->field = told[1] == 1 || told[1] == 2 ? told[1] : FAULT == 174 && !told[1] ? 0 : 3;   /* 174: no field */
-    if (s->report == H8_HALTED)
-        read_refusal(s, told);
-}
-
-static void read_part(struct standing *s, const uint32_t *part)
-{
-    s->count = FAULT == 164 ? 0 : FAULT == 181 ? part[0] % H8_RECORD : part[0];     /* 164: what was read is lost, 181: by its remainder */
-    s->length = FAULT == 182 ? 0 : part[1];                                         /* 182: half a length is lost */
-    s->pc = part[2];
-    s->condition = FAULT == 180 ? part[3] : part[3] % 256;                          /* 180: as it stands */
-    s->recorded = part[4];
-}
-
-static struct standing read_numbers(uint32_t *k)
-{
-    uint32_t high = FAULT == 185 ? 0 : k[FAULT == 184 ? 12 : 11], low = k[FAULT == 184 ? 11 : 12];          /* 185: 32 bits are kept */
-    struct standing s = {.regs = k, .steps = k[10], .states = (uint64_t)high << 32 | low, .report = H8_AGREED};
-    k[H8_CONDITION] = FAULT == 179 ? k[H8_CONDITION] : k[H8_CONDITION] % 256;       /* 179: as it stands */
-    s.stage = k[13] < CLOSED ? k[13] : FAULT == 172 ? k[13] % 4 : CLOSED;           /* 172: by its remainder */
-    if (s.stage == RECORDS)
-        read_part(&s, k + 14);
-    if (s.stage == TOLD)
-        read_told(&s, k + 19);
-    return s;
-}
-
-static void write_numbers(const struct standing *s, uint32_t *k)
-{
-    const uint32_t high = (uint32_t)(s->states >> 32), low = (uint32_t)s->states;
-    const uint32_t part[] = {s->count, s->length, s->pc, s->condition, s->recorded};
-    const uint32_t told[] = {s->report, s->field, s->number, FAULT == 186 ? 0 : s->place, s->group};        /* 186: the place is not kept */
-    memset(k + 10, 0, 4 * (H8_REPLAY - 10));
-    k[10] = s->steps;
-    k[11] = FAULT == 184 ? low : high;                                              /* 184: the lower number first */
-    k[12] = FAULT == 184 ? high : low;
-    k[13] = s->stage;
-    if (s->stage == RECORDS || (FAULT == 183 && s->stage == TOLD))                  /* 183: what was read stays */
-        memcpy(k + 14, part, sizeof part);
-    if (s->stage == TOLD)
-        memcpy(k + 19, told, sizeof told);
-}
-
-/* What a call comes to: the numbers are written, and the answer. */
-static uint32_t carry_on(struct standing *s, uint32_t *replay, uint64_t *answer)
-{
-    write_numbers(s, replay);
-    if (s->stage == VERSION || s->stage == RECORDS)
-        s->report = FAULT == 169 ? H8_AGREED : H8_MORE;                             /* 169: agreed before the end */
-    return tell_standing(s, answer);
-}
-
-/* 20, with nothing changed. */
-static uint32_t too_late(const struct standing *s, uint32_t *replay, uint64_t *answer)
-{
-    struct standing told = {.steps = s->steps, .states = s->states, .report = H8_HALTED, .number = 20};
-    told.place = FAULT == 168 ? record_begins(s) : 0;                               /* 168: its place is a record's */
-    if (FAULT == 170)                                                               /* nothing is counted */
-        told.steps = 0, told.states = 0;
-    write_numbers(s, replay);
-    if (FAULT == 167)                                                               /* it closes the replay */
-        replay[13] = CLOSED;
-    return tell_standing(&told, answer);
-}
-
-uint32_t h8_replay_begin(const uint32_t *board, size_t board_n, const uint8_t *rom, size_t rom_n, const uint8_t *ram, size_t ram_n,
-                         const uint32_t *regs, size_t regs_n, uint32_t *replay, size_t replay_n, uint64_t *answer, size_t answer_n)
-{
-    const struct replay_board b = {board, board_n, rom_n, ram_n, rom, (uint8_t *)(uintptr_t)ram};
-    if (answer_n < 7)
-        return 13;
-    if (FAULT == 190 && regs_n < 10)                                                /* the registers are looked at first */
-        return tell_short(10, answer);
-    if (replay_n < (FAULT == 191 ? 23 : H8_REPLAY))                                 /* 191: 23 are enough */
-        return tell_short(H8_REPLAY, answer);
-    if (regs_n < 10)
-        return tell_short(10, answer);
-    memcpy(replay, regs, 40);
-    struct standing s = begin_standing(&b, replay);
-    replay[H8_CONDITION] %= 256;
-    if (FAULT == 166 && s.stage == TOLD)                                            /* a wrong start is not carried on */
-        return write_numbers(&(struct standing){0}, replay), tell_standing(&s, answer);
-    if (FAULT == 192 && replay_n > H8_REPLAY)                                       /* writes behind the numbers */
-        replay[H8_REPLAY] = 0;
-    return carry_on(&s, replay, answer);
-}
-
-/* The faults of a delivery before it is taken: 1 if it is answered. */
-static int spoil_take(struct standing *s, size_t n)
-{
-    if (FAULT == 160 && s->stage == CLOSED && n == 0)                               /* an empty delivery after the end */
-        return 1;
-    if (FAULT == 171 && s->stage == TOLD)                                           /* a late delivery repeats what was told */
-        return 1;
-    if (FAULT == 163 && s->stage == TOLD && s->report == H8_DIFFERS)                /* it goes on after a difference */
-        s->stage = RECORDS, s->report = s->field = 0;
-    if (FAULT == 194 && n == 0)                                                     /* an empty delivery ends a record */
-        no_part(s);
-    return 0;
-}
-
-uint32_t h8_replay_take(const uint32_t *board, size_t board_n, const uint8_t *rom, size_t rom_n, uint8_t *ram, size_t ram_n,
-                        uint32_t *replay, size_t replay_n, const uint8_t *bytes, size_t n, uint64_t *answer, size_t answer_n)
-{
-    const struct replay_board b = {board, board_n, rom_n, ram_n, rom, ram};
-    if (answer_n < 7)
-        return 13;
-    if (replay_n < H8_REPLAY)
-        return tell_short(H8_REPLAY, answer);
-    struct standing s = read_numbers(replay);
-    if (spoil_take(&s, n))
-        return tell_standing(&s, answer);
-    if (s.stage == TOLD || s.stage == CLOSED)
-        return too_late(&s, replay, answer);
-    if (FAULT == 193 && begin_standing(&b, replay).stage == TOLD)                   /* the start is looked at again */
-        tell_halted(&s, 1, 0);
-    for (size_t i = 0; i < n; i++)
-        take_byte(&s, &b, bytes[i]);
-    if (FAULT == 162 && s.stage == RECORDS && s.count)                              /* 19 at a delivery */
-        tell_halted(&s, 19, record_begins(&s));
-    return carry_on(&s, replay, answer);
-}
-
-uint32_t h8_replay_end(uint32_t *replay, size_t replay_n, uint64_t *answer, size_t answer_n)
-{
-    if (answer_n < 7)
-        return 13;
-    if (replay_n < H8_REPLAY)
-        return tell_short(H8_REPLAY, answer);
-    struct standing s = read_numbers(replay);
-    if (s.stage == CLOSED || (FAULT == 165 && s.stage == TOLD))                     /* 165: no end after what was told */
-        return too_late(&s, replay, answer);
-    uint32_t was = s.stage;
-    close_standing(&s);
-    write_numbers(&s, replay);
-    if (FAULT == 161)                                                               /* the end is not kept */
-        replay[13] = was;
     return tell_standing(&s, answer);
 }

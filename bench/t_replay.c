@@ -4,7 +4,7 @@
 #include <string.h>
 
 typedef unsigned long long ull;
-enum { MOST = LOOP_MOST };
+enum { MOST = 1000000 };
 
 struct lender file_lender;
 static void start(void)
@@ -300,7 +300,10 @@ static void refused_steps(void)
 }
 
 /* A MILLION RECORDS. What is behind them is refused at its first byte, whatever it is; all before counts. The recording is written out. */
-uint8_t *loop_recording(const struct loop *l, uint32_t records, uint64_t *states, uint32_t *pc)
+struct loop {
+    uint32_t length, each, last, condition;         /* instructions, states of each and of the last, the condition byte behind the first */
+};
+static uint8_t *loop_recording(const struct loop *l, uint32_t records, uint64_t *states, uint32_t *pc)
 {
     static uint8_t bytes[1 + (MOST + 1) * RECORD];
     uint64_t sum = 0;

@@ -4,6 +4,8 @@
    nothing between calls, allocates nothing, prints nothing and calls nothing.
 
    WHAT CHANGED, the newest first. Programs that it concerns have to be compiled again with this header.
+   - h8_step says what the instruction read and wrote. Its answer has H8_STEP_ANSWER numbers, 17 in place of 4; the first four
+     are what they were. It concerns every program that calls h8_step: a shorter `answer` is refused by 13.
    - h8_figure follows calls: BSR and JSR @aa:24 count what the routine takes that they enter, where they were 9 before. New
      are the refusals 16, a ninth level of calls, and 22, a figure above 1,000,000,000. What the figure promises it now promises
      of runs by h8_routine, which is new: such a run knows where it has to return to. The bound on steps is gone. It concerns
@@ -195,10 +197,18 @@ uint32_t h8_decode(const uint8_t *bytes, size_t n, uint32_t *fields, size_t fiel
 uint32_t h8_encode(const uint32_t *fields, size_t fields_n, uint8_t *out, size_t out_n, uint32_t *answer, size_t answer_n);
 
 /* One instruction, at PC.
-   answer, 4 numbers: [number, place, group, states].
-   Looks for: 13 (answer_n below 4: nothing written), 13 (regs_n below 10: place 10), 1, 2, 4, 15 or 3, 5, 6, 7, 14.
-   0: `regs` and `ram` are as the instruction leaves them, `states` is what it took, each access at the cost of its place.
-   Else both are as they were, states 0. */
+   answer, 17 numbers: [number, place, group, states, count, then three for each of four accesses: address, bytes, write].
+   The first `count` accesses are those to data that the instruction made, in the order made; the numbers of the others are 0.
+   The address is below 2^24, and even where bytes is 2; bytes is 1 or 2; write is 0 for a read and 1 for a write. A longword
+   is two accesses, the upper word first. Fetches are not among them. So JSR @@aa:8 has two reads and then two writes, RTS two
+   reads, BSET in memory a read and then a write of the same byte, and @-ERn is at the lowered address.
+   Looks for: 13 (answer_n below 17: nothing written), 13 (regs_n below 10: place 10), 1, 2, 4, 15 or 3, 5, 6, 7, 14.
+   0: `regs` and `ram` are as the instruction leaves them; `states` is what it took: two for each word of code that it
+   fetched, its internal states, and each access of the list at the cost of its place. No other byte of `ram` has changed
+   than those that a write of the list reaches.
+   Else both are as they were, states 0 and no accesses. */
+enum h8_step_answer { H8_COUNT = 4, H8_ACCESSES = 5, H8_STEP_ANSWER = 17 };
+enum h8_access { H8_ADDRESS = 0, H8_BYTES = 1, H8_WRITE = 2, H8_ACCESS = 3 };  /* access i is at H8_ACCESSES + H8_ACCESS * i */
 uint32_t h8_step(const uint32_t *board, size_t board_n, const uint8_t *rom, size_t rom_n, uint8_t *ram, size_t ram_n,
                  uint32_t *regs, size_t regs_n, uint32_t *answer, size_t answer_n);
 
@@ -252,23 +262,19 @@ uint32_t h8_replay(const uint32_t *board, size_t board_n, const uint8_t *rom, si
                 states as far as they have come
      19 to 23   with 2 there: report and field, and the number, place and group of a refusal, as in the answer
 
-   and 0 where nothing is said. The caller lends the same numbers again, and the memories and the board as they were. What the
-   three functions leave there they read back as it was. Any other numbers are answered too: a number of 13 over 3 is read as 3,
-   of 19 over 2 as 2, of 20 that is no field as H8_FIELD_STATES, of 21 that is no refusal's as 1; condition bytes by their
-   remainder by 256, of refusal 15 the place by 2^24 and the group by 2^8, and 1, 11, 12, 17 and 20 have place 0. All else is
-   taken as it stands: 10 and 14 are counted on from their remainder by 2^24, the length is looked at when 14 becomes 2 and the
-   record compared when it becomes 11, and 12 is said from 1,000,000 records on. What was read so is written back so, with 20 too.
+   and 0 where nothing is said. The caller lends the same numbers again, and the memories and the board as they were. Any
+   numbers are answered: they are taken as they stand, a number of 13 over 3 as 3, of 19 over 2 as 2, of 20 that is no field as
+   H8_FIELD_STATES, of 21 that is no refusal's as 1, and condition bytes by their remainder by 256. What the three functions
+   leave there they read back as it was.
 
    answer, 7 numbers, as h8_replay's; the report is H8_MORE, and 0 is returned, while all agreed so far and more may come. The
    other reports come as soon as the byte that decides them; bytes after it, in the same delivery, are passed over. 19 comes from
    h8_replay_end alone.
 
    h8_replay_begin looks for: 13 (answer_n below 7: nothing written), 13 (replay_n below 24: place 24), 13 (regs_n below 10:
-   place 10), 1 (for a condition byte over 255 too, of which the replay holds the remainder by 256). After 1 the replay is over,
-   and h8_replay_end repeats it.
+   place 10), 1. After 1 the replay is over, and h8_replay_end repeats it.
    h8_replay_take looks for: 13 (answer_n below 7), 13 (replay_n below 24: place 24), 20 (a difference or a refusal was told, or
-   the end declared; for an empty delivery too: nothing changes); then as h8_replay in the file. A wrong board is 1 where a step
-   is to be taken on it.
+   the end declared; for an empty delivery too: nothing changes); then as h8_replay.
    h8_replay_end looks for: 13 (answer_n below 7), 13 (replay_n below 24: place 24), 20 (the end was declared before); then 19,
    or it repeats the difference or the refusal, or all agreed. */
 enum h8_replay_number {

@@ -221,10 +221,8 @@ fn recording(q: Request, fd: i32, rom: &[u8], ram: &mut [u8], g: Given, r: Regis
 
 // The file, or what comes in, for a single dash.
 fn source(path: &[u8]) -> i32 {
-    if path.len() == 1 {
-        if path[0] == b'-' {
-            return 0;
-        }
+    if asking::same(path, b"-") {
+        return 0;
     }
     os::open_read(path)
 }
