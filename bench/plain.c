@@ -987,47 +987,61 @@ ALWAYS struct line look(const struct ports *k, const uint8_t *rom, uint32_t rom_
     }
 }
 
-/* A row while it is reckoned is one number, the lowest forbidden place above the figure, which is held at one more than the largest that is
-   told. So a place's two numbers hold two levels by turns: this one's, and that of one call less. */
-enum { LEVELS = 8, OVER = 1000000001, FIGURE_BITS = 30 };
-ALWAYS uint64_t row_of(uint64_t figure, uint64_t low) { return low << FIGURE_BITS | figure; }
-ALWAYS uint64_t figure_in(uint64_t row) { return row & ((1u << FIGURE_BITS) - 1); }
-ALWAYS uint64_t low_in(uint64_t row) { return row >> FIGURE_BITS; }
-ALWAYS uint64_t row_at(const uint64_t *table, uint32_t rom_n, uint32_t level, uint32_t q)
+/* A row while it is reckoned is a number below 2^32: a figure, held at one more than the largest that is told, or a lowest forbidden place
+   taken from 2^32 - 1. So the larger of two rows tells which of them counts. A place's two numbers hold two levels by turns in their lower
+   halves, this one's and that of one call less; in the upper halves is noted what stands there, so that it is looked at once. */
+enum { LEVELS = 8, OVER = 1000000001 };
+enum { NOTED_STOP, NOTED_END, NOTED_WAY, NOTED_CALL };
+#define BAR 0xFF000000u
+ALWAYS uint32_t barred(uint32_t p) { return 0xFFFFFFFFu - p; }
+ALWAYS uint64_t figure_in(uint32_t row) { return row > BAR ? 0 : row; }
+ALWAYS uint64_t low_in(uint32_t row) { return row > BAR ? 0xFFFFFFFFu - row : H8_NONE; }
+ALWAYS uint32_t row_at(const uint64_t *table, uint32_t rom_n, uint32_t odd, uint32_t q)
 {
-    return q < rom_n ? table[q + level % 2] : row_of(0, q);
+    return q < rom_n ? (uint32_t)table[q + odd] : barred(q);
 }
 ALWAYS uint64_t least(uint64_t a, uint64_t b) { return a < b ? a : b; }
-ALWAYS uint64_t through(uint64_t low, uint64_t total) { return low == H8_NONE ? row_of(least(total, OVER), low) : row_of(0, low); }
-ALWAYS uint64_t reckon(const uint64_t *table, uint32_t rom_n, uint32_t level, uint32_t p, struct line l)
+ALWAYS uint32_t larger(uint32_t a, uint32_t b) { return a > b ? a : b; }
+ALWAYS uint32_t through(uint32_t top, uint64_t total) { return top > BAR ? top : (uint32_t)least(total, OVER); }
+ALWAYS void note(uint64_t *two, struct line l)
 {
-    uint32_t a = l.kind == JUMPS ? l.target : l.next, b = l.kind == GOES_ON ? l.next : l.target;
-    if (l.kind == ENDS)
-        return row_of(l.states, H8_NONE);
-    if (l.kind == STOPS || (l.kind == CALLS && level == 0))
-        return row_of(0, p);
-    if (l.kind == CALLS) {
-        uint64_t routine = row_at(table, rom_n, level - 1, l.target), after = row_at(table, rom_n, level, l.next);
-        return through(least(low_in(routine), low_in(after)), l.states + figure_in(routine) + figure_in(after));
+    uint32_t on = l.kind == JUMPS ? l.target : l.next, to = l.kind == GOES_ON ? l.next : l.target;
+    uint64_t kind = l.kind == STOPS ? NOTED_STOP : l.kind == ENDS ? NOTED_END : l.kind == CALLS ? NOTED_CALL : NOTED_WAY;
+    two[0] = (kind << 24 | to) << 32;
+    two[1] = ((uint64_t)l.states << 24 | on) << 32;
+}
+ALWAYS uint32_t reckon(const uint64_t *table, uint32_t rom_n, uint32_t level, uint32_t p)
+{
+    uint32_t first = (uint32_t)(table[p] >> 32), second = (uint32_t)(table[p + 1] >> 32), odd = level % 2;
+    uint32_t kind = first >> 24, to = first & 0xFFFFFF, on = second & 0xFFFFFF, states = second >> 24;
+    if (kind == NOTED_END)
+        return states;
+    if (kind == NOTED_STOP || (kind == NOTED_CALL && level == 0) || (kind == NOTED_WAY && (on <= p || to <= p)))
+        return barred(p);
+    uint32_t after = row_at(table, rom_n, odd, on), other;
+    if (kind == NOTED_CALL) {
+        other = row_at(table, rom_n, !odd, to);
+        return through(larger(other, after), (uint64_t)states + other + after);
     }
-    if (a <= p || b <= p)
-        return row_of(0, p);
-    uint64_t x = row_at(table, rom_n, level, a), y = row_at(table, rom_n, level, b);
-    return through(least(low_in(x), low_in(y)), l.states + (figure_in(x) > figure_in(y) ? figure_in(x) : figure_in(y)));
+    other = row_at(table, rom_n, odd, to);
+    return through(larger(after, other), (uint64_t)states + larger(after, other));
 }
 /* Every place with no call left, then with one, and so up to eight; then the rows as they are told. Answers the entry's row before that. */
-static uint64_t fill(const struct ports *k, const uint8_t *rom, uint32_t n, uint32_t entry, uint64_t *table)
+static uint32_t fill(const struct ports *k, const uint8_t *rom, uint32_t n, uint32_t entry, uint64_t *table)
 {
+    for (uint32_t p = 0; p < n; p += 2)
+        note(table + p, look(k, rom, n, p));
     for (uint32_t level = 0; level <= LEVELS; level++)
         for (uint32_t p = n; p > 0;) {
             p -= 2;
-            table[p + level % 2] = reckon(table, n, level, p, look(k, rom, n, p));
+            uint64_t *number = &table[p + level % 2];
+            *number = *number >> 32 << 32 | reckon(table, n, level, p);
         }
-    uint64_t row = table[entry + LEVELS % 2];
+    uint32_t row = (uint32_t)table[entry + LEVELS % 2];
     for (uint32_t p = 0; p < n; p += 2) {
-        uint64_t x = table[p + LEVELS % 2], over = figure_in(x) == OVER;
-        table[p] = over ? 0 : figure_in(x);
-        table[p + 1] = over ? p : low_in(x);
+        uint32_t x = (uint32_t)table[p + LEVELS % 2];
+        table[p] = x == OVER ? 0 : figure_in(x);
+        table[p + 1] = x == OVER ? p : low_in(x);
     }
     return row;
 }
@@ -1080,7 +1094,7 @@ uint32_t plain_figure(const uint32_t *board, size_t board_n, const uint8_t *rom,
     bad = take_ports(&k, board, board_n) ? bad_lent(&k, rom_n, entry, table_n, answer) : told(answer, 1, 0, 0);
     if (bad)
         return bad;
-    uint64_t row = fill(&k, rom, n, entry, table);
+    uint32_t row = fill(&k, rom, n, entry, table);
     if (low_in(row) != H8_NONE)
         return told_forbidden(rom, n, low_in(row), answer);
     return figure_in(row) == OVER ? told(answer, 22, entry, 0) : told(answer, 0, 0, figure_in(row));

@@ -2,7 +2,7 @@
 use mathlib.Core.Path.{_≡_}
 use mathlib.Core.Bool.{Bool, true, false, _&&_}
 use mathlib.Core.List.{List}
-use Prim.Native.Nat.{ℕ, suc, _+_, _*_, _%_, _≤_, _<_}
+use Prim.Native.Nat.{ℕ, suc, _+_, _/_, _%_, _≤_, _<_}
 use lib.ListN.{length, getD}
 use lib.Dec.{leb, eqb}
 use Rattle.paths.specs.declared.Flow.{Flow}
@@ -10,6 +10,7 @@ use Rattle.paths.specs.declared.Reckoned.{Reckoned}
 use Rattle.paths.specs.Paths.{RowsFrom}
 use Rattle.paths.specs.Levels.{HeldIs, LevelFrom}
 use Rattle.paths.specs.MirrorRows.{barred, levelOf, shownOf}
+use Rattle.paths.specs.MirrorPacked.{notedOf, plainOf}
 
 -- past the rows stands what stood there
 abbrev pub Rest : ℕ → List ℕ → List ℕ → Type 0
@@ -30,9 +31,19 @@ abbrev pub FilledIf : Bool → (ℕ → Flow) → ℕ → ℕ → List ℕ → R
 FilledIf true flow len entry before r after = HeldIs flow 8 entry r × Filled flow len before after
 FilledIf false flow len entry before r after = (r ≡ barred entry) × (after ≡ before)
 
--- while it is filled: the rows that calls ask for are those of the whole level below, where there is one
+-- while it is filled: what stands at each place is noted in the upper halves of its numbers
+abbrev pub NotedFrom : (ℕ → Flow) → ℕ → List ℕ → ℕ → Type 0
+NotedFrom flow len table i = (p : ℕ) → i ≤ p → p % 2 ≡ 0 → p < len → notedOf (getD table p 0 / 4294967296) (getD table (p + 1) 0 / 4294967296) ≡ plainOf (flow p)
+
+-- the rows that calls ask for are those of the whole level below, where there is one
 abbrev pub Callees : (ℕ → Flow) → ℕ → List ℕ → ℕ → Type 0
 Callees flow len table d = (e : ℕ) → d ≡ suc e → LevelFrom flow len table e 0
+
+-- all that the row of a place below i hangs on, with d levels of calls left
+pub record Ready (flow : ℕ → Flow) (len : ℕ) (table : List ℕ) (d i : ℕ) : Type 0 where
+  pub noted : NotedFrom flow len table 0
+  pub below : Callees flow len table d
+  pub rows : LevelFrom flow len table d i
 
 -- what is lent is long enough, and d levels of calls are left
 pub record Lent (len lent d : ℕ) : Type 0 where
@@ -44,6 +55,7 @@ pub record Lent (len lent d : ℕ) : Type 0 where
 -- the costs of calls with d levels left are known
 pub record Costed (flow : ℕ → Flow) (len d : ℕ) (before after : List ℕ) : Type 0 where
   pub same-length : length after ≡ length before
+  pub noted : NotedFrom flow len after 0
   pub below : Callees flow len after d
   pub rest : Rest len before after
 

@@ -1,32 +1,64 @@
 // What paths and calls cost, for every place of read-only memory: document 02, W9. "A path asks what its calls cost, and a call asks for the longest path of
-// the routine it enters": `path_cost` and `call_cost` call each other, remaining depth and then remaining places falling. Of a place's two numbers in the
-// table each has one level's row, packed: even depths in the first, odd ones in the second, for a level needs only itself and the one below.
+// the routine it enters": `path_cost` and `call_cost` call each other, remaining depth and then remaining places falling. Each of a place's two numbers in the
+// table has in its lower half one level's row, packed: even depths in the first, odd ones in the second, for a level needs only itself and the one below. In
+// the upper halves stands what `listing` says of the place, which all levels ask for.
 use paths::Reckoned;
 use site::Site;
 ghost use mathlib.Core.Path.{_≡_};
 ghost use Prim.Native.Nat.{_+_, _-_, _*_, _<_, _≤_};
 ghost use lib.ListN.{length};
-ghost use Rattle.paths.specs.MirrorRows.{packedOf, levelOf, reckonedOf};
-ghost use Rattle.paths.specs.Levels.{LevelFrom};
 ghost use Rattle.listing.specs.Listing.{flowAt};
-ghost use Rattle.levels.specs.Levels.{fitting, FilledIf, Callees, Lent, Costed, Reached, Unpacked};
+ghost use Rattle.levels.specs.Levels.{fitting, FilledIf, Lent, Ready, Costed, Reached, Unpacked};
 
 const DEPTH: u32 = 8;
 
-// The row of the place p with `depth` levels of calls left, packed.
-fn row(k: Site, rom: &[u8], table: &[u64], depth: u32, p: u32) -> u64
-    ensures { λ r. ⌜ r ≡ packedOf (reckonedOf (levelOf (length (now (rom .entry))) (now (table .entry)) depth) (levelOf (length (now (rom .entry))) (now (table .entry)) (depth - 1)) depth p (flowAt k (now (rom .entry)) p)) ⌝ }
+// So many places at most are filled in one loop; more are halved first. A call for each place would take longer than its row.
+const STRETCH: usize = 4096;
+
+const HALF: u64 = 4294967296;
+
+// Notes what stands at each place, so that its instruction is looked at once and not at every level.
+fn note(k: Site, rom: &[u8], table: &mut [u64])
+    requires { ⌜ Lent (length (now rom)) (length (now table)) 0 ⌝ }
+    ensures { λ r. ⌜ Costed (flowAt k (now (rom .entry))) (length (now (rom .entry))) 0 (now (table .entry)) (now (table .exit)) ⌝ }
 {
-    let f = listing::glance(k, rom, p);
-    let r = paths::reckon(rom.len(), table, depth, p, f);
-    paths::packed(r)
+    let mut p = rom.len();
+    while 0 < p {
+        p -= 2;
+        let f = listing::glance(k, rom, p as u32);
+        let w = paths::noted(f);
+        let to = w.to;
+        let on = w.on;
+        table[p] = to;
+        table[p + 1] = on;
+    }
+}
+
+// Fills the rows of `more` places below the highest `done`, from the top down. A row leaves what is noted in the upper half of its number.
+fn stretch(k: Site, rom: &[u8], table: &mut [u64], depth: u32, done: usize, more: usize)
+    requires { ⌜ Lent (length (now rom)) (length (now table)) depth × ((done + more) * 2 ≤ length (now rom)) ⌝ }
+    requires { ⌜ Ready (flowAt k (now rom)) (length (now rom)) (now table) depth (length (now rom) - done * 2) ⌝ }
+    ensures { λ r. ⌜ Reached (flowAt k (now (rom .entry))) (length (now (rom .entry))) depth (length (now (rom .entry)) - (done + more) * 2) (now (table .entry)) (now (table .exit)) ⌝ }
+{
+    let len = rom.len();
+    let odd = (depth % 2) as usize;
+    let mut p = len - done * 2;
+    let end = p - more * 2;
+    while end < p {
+        p -= 2;
+        let to = table[p] / HALF;
+        let on = table[p + 1] / HALF;
+        let r = paths::reckon(len, table, depth, p as u32, to, on);
+        let at = p + odd;
+        table[at] = table[at] / HALF * HALF + r;
+    }
 }
 
 // Fills the rows of `more` places below the highest `done`: by halves, so that the stack does not grow with the memory. Before the first row of a level it
 // asks what calls cost there.
 fn path_cost(k: Site, rom: &[u8], table: &mut [u64], depth: u32, done: usize, more: usize)
     requires { ⌜ Lent (length (now rom)) (length (now table)) depth × ((done + more) * 2 ≤ length (now rom)) ⌝ }
-    requires { ⌜ (0 < done → Callees (flowAt k (now rom)) (length (now rom)) (now table) depth × LevelFrom (flowAt k (now rom)) (length (now rom)) (now table) depth (length (now rom) - done * 2)) ⌝ }
+    requires { ⌜ (0 < done → Ready (flowAt k (now rom)) (length (now rom)) (now table) depth (length (now rom) - done * 2)) ⌝ }
     ensures { λ r. ⌜ Reached (flowAt k (now (rom .entry))) (length (now (rom .entry))) depth (length (now (rom .entry)) - (done + more) * 2) (now (table .entry)) (now (table .exit)) ⌝ }
 {
     if more == 0 {
@@ -35,12 +67,9 @@ fn path_cost(k: Site, rom: &[u8], table: &mut [u64], depth: u32, done: usize, mo
         }
         return;
     }
-    if more == 1 {
+    if more <= STRETCH {
         path_cost(k, rom, table, depth, done, 0);
-        let p = rom.len() - (done + 1) * 2;
-        let r = row(k, rom, table, depth, p as u32);
-        let at = p + (depth % 2) as usize;
-        table[at] = r;
+        stretch(k, rom, table, depth, done, more);
         return;
     }
     let half = more / 2;
@@ -48,12 +77,14 @@ fn path_cost(k: Site, rom: &[u8], table: &mut [u64], depth: u32, done: usize, mo
     path_cost(k, rom, table, depth, done + half, more - half);
 }
 
-// What calls cost with `depth` levels left: the longest paths of all routines, with a level less. With none left a call costs nothing: it is forbidden.
+// What calls cost with `depth` levels left: the longest paths of all routines, with a level less. With none left a call costs nothing, for it is forbidden:
+// there it begins, and what stands at each place is noted.
 fn call_cost(k: Site, rom: &[u8], table: &mut [u64], depth: u32)
     requires { ⌜ Lent (length (now rom)) (length (now table)) depth ⌝ }
     ensures { λ r. ⌜ Costed (flowAt k (now (rom .entry))) (length (now (rom .entry))) depth (now (table .entry)) (now (table .exit)) ⌝ }
 {
     if depth == 0 {
+        note(k, rom, table);
         return;
     }
     let words = rom.len() / 2;

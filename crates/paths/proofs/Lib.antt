@@ -6,3 +6,4 @@ pub mod Kept
 pub mod Rows
 pub mod Ways
 pub mod Table
+pub mod Packed

@@ -14,7 +14,7 @@ use Rattle.paths.specs.declared.Flow.{Flow}
 use Rattle.paths.specs.declared.Flow.the-variants.{Next, Jump, Either, Call, Ends, Stop}
 use Rattle.paths.specs.Paths.{IsPlace, Leads, Enters, countOf, Forbidden, stop, back, deep, Open, IsFigure, Over, Row, figure, over, refused, RowsFrom}
 use Rattle.paths.specs.Levels.{Held, totals, bars, HeldIs, LevelFrom}
-use Rattle.paths.specs.MirrorRows.{rowOf, packedOf, unpackedOf, levelOf, shownOf, totalOf, joined, calledOf, upwardOf, enteredOf, reckonedOf, whyOf, turnedOf, ownOf}
+use Rattle.paths.specs.MirrorRows.{rowOf, levelOf, shownOf, totalOf, joined, calledOf, upwardOf, enteredOf, reckonedOf, whyOf, turnedOf, ownOf}
 use Rattle.paths.proofs.Laws.{le-or, Both, both-next, both-jump, both-either, Listing, up, no-way-stop, no-call-stop, held-stop, held-ends, held-join, held-call, held-small, held-cast, held-low, held-outside, row-outside, meets-in}
 
 -- a place is allowed if its ways go up, and a call is with a level left
@@ -129,14 +129,6 @@ module _ (flow : ℕ → Flow) (len : ℕ) (L : Listing flow len) where
 
     pub held-reckoned : HeldIs flow d p (reckonedOf same less d p (flow p))
     held-reckoned = row-flow (flow p) refl
-
-  -- a row that is packed and unpacked
-  pub held-packed : {d p : ℕ} (r : Reckoned) → IsPlace p → HeldIs flow d p r → HeldIs flow d p (unpackedOf (packedOf r))
-  unfolding unpackedOf packedOf
-  held-packed r z h =
-      let a = held-small flow h in
-      let b = held-low flow len L z h in
-      held-cast flow (omega arith) (omega arith) h
 
   -- what a table is left with
   pub shown-row : {p n f : ℕ} → Held flow 8 p n f → Row flow p (shownOf p (record { figure = n; low = f }) .figure) (shownOf p (record { figure = n; low = f }) .low)

@@ -1,7 +1,8 @@
--- A row from the rows that it hangs on, as the code finds it. Nothing to believe: `proofs/Rows.antt` shows that it is what `Paths` says.
+-- A row from the rows that it hangs on. Nothing to believe: `proofs/Rows.antt` shows that it is what `Paths` says, and `proofs/Packed.antt` that it is what the
+-- code finds.
 use mathlib.Core.List.{List}
 use mathlib.Core.Bool.{cond, _||_}
-use Prim.Native.Nat.{ℕ, _+_, _-_, _*_, _/_, _%_, _^_, min, max}
+use Prim.Native.Nat.{ℕ, _+_, _-_, _%_, _^_, min, max}
 use lib.ListN.{getD}
 use lib.Dec.{ltb, leb, eqb}
 use Rattle.refusal.specs.declared.Refusal.{Refusal}
@@ -19,12 +20,9 @@ barred p = record { figure = 0; low = p }
 unfoldable pub rowOf : ℕ → List ℕ → ℕ → Reckoned
 rowOf len table q = cond (ltb q len) (record { figure = getD table q 0; low = getD table (q + 1) 0 }) (barred q)
 
--- a row in one number: the figure in its lower 30 bits, the lowest forbidden place above them
-unfoldable pub packedOf : Reckoned → ℕ
-packedOf r = r .figure % 1073741824 + r .low % 16777216 * 1073741824
-
+-- a packed row: the lower half of a number, a figure as it is, or a lowest forbidden place taken from 2^32 - 1
 unfoldable pub unpackedOf : ℕ → Reckoned
-unpackedOf x = record { figure = x % 1073741824; low = x / 1073741824 }
+unpackedOf x = cond (ltb 4278190080 (x % 4294967296)) (record { figure = 0; low = 4294967295 - x % 4294967296 }) (record { figure = x % 4294967296; low = 16777215 })
 
 -- the row of q with d levels of calls left, in a table of packed rows
 unfoldable pub levelOf : ℕ → List ℕ → ℕ → ℕ → Reckoned

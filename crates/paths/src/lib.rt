@@ -1,11 +1,12 @@
 // Paths over a listing: document 01, "The routine's figure". `Flow` is all they know of an instruction set.
 use refusal::Refusal;
 ghost use mathlib.Core.Path.{_≡_};
-ghost use mathlib.Core.Bool.{cond, _||_};
-ghost use Prim.Native.Nat.{_-_, min, max};
+ghost use mathlib.Core.Bool.{_||_};
+ghost use Prim.Native.Nat.{_-_, _<_, min, max};
 ghost use lib.ListN.{getD};
-ghost use lib.Dec.{leb, eqb};
-ghost use Rattle.paths.specs.MirrorRows.{barred, rowOf, packedOf, unpackedOf, levelOf, shownOf, totalOf, joined, calledOf, upwardOf, enteredOf, reckonedOf, whyOf, turnedOf, ownOf, betterOf, onwardOf};
+ghost use lib.Dec.{leb};
+ghost use Rattle.paths.specs.MirrorRows.{barred, rowOf, unpackedOf, levelOf, shownOf, whyOf, turnedOf, ownOf, betterOf, onwardOf};
+ghost use Rattle.paths.specs.MirrorPacked.{packedBar, packedAt, packedTotal, packedJoin, packedCall, packedUp, packedIn, packedFlow, notesFor, notesOf, notedOf};
 
 // Where paths go from a place, with the states of what stands there.
 pub enum Flow {
@@ -29,6 +30,13 @@ pub struct Reckoned {
     pub low: u64,
 }
 
+// What stands at a place, noted in the upper halves of two numbers, whose lower halves are for rows: the place that it may go to and what kind it is, and
+// the place where it goes on and its states.
+pub struct Notes {
+    pub to: u64,
+    pub on: u64,
+}
+
 // Where the longest way goes on from a place, or that it returns there.
 pub enum WayOn {
     On(u32),
@@ -42,6 +50,15 @@ const LIMIT: u64 = 1000000000;
 
 const HELD: u64 = 1000000001;
 
+// A packed row is a number below 2^32: a figure as it is, or a lowest forbidden place taken from 2^32 - 1. So one with a place is above BAR and all
+// figures, and of two with a place the larger has the lower one: the larger of two numbers tells which of two rows counts.
+const HALF: u64 = 4294967296;
+
+const BAR: u64 = 4278190080;
+
+// A place, in the lower part of half a number.
+const PLACES: u64 = 16777216;
+
 fn smaller(a: u64, b: u64) -> u64
     ensures { λ r. ⌜ r ≡ min a b ⌝ }
 {
@@ -54,41 +71,30 @@ fn larger(a: u64, b: u64) -> u64
     if a < b { b } else { a }
 }
 
-// The total where no forbidden place is met, and 0 otherwise.
-fn if_clear(low: u64, total: u64) -> u64
-    ensures { λ r. ⌜ r ≡ cond (eqb low 16777215) total 0 ⌝ }
+// The packed row by an instruction of s states with `rest` after it, where `top` is the larger of the rows that it hangs on.
+fn total(s: u64, rest: u64, top: u64) -> u64
+    ensures { λ r. ⌜ r ≡ packedTotal s rest top ⌝ }
 {
-    if low == NONE { total } else { 0 }
-}
-
-// The row by an instruction of s states with `rest` after it, and two lowest forbidden places.
-fn total(s: u64, rest: u64, a: u64, b: u64) -> Reckoned
-    ensures { λ r. ⌜ r ≡ totalOf s rest a b ⌝ }
-{
-    let low = smaller(a, b);
     let sum = std::num::wrapping_add_u64(s, rest);
     let held = smaller(sum, HELD);
-    let figure = if_clear(low, held);
-    Reckoned {
-        figure: figure,
-        low: low,
-    }
+    if BAR < top { top } else { held }
 }
 
 // The row above two rows.
-fn join(s: u64, a: Reckoned, b: Reckoned) -> Reckoned
-    ensures { λ r. ⌜ r ≡ joined s a b ⌝ }
+fn join(s: u64, a: u64, b: u64) -> u64
+    ensures { λ r. ⌜ r ≡ packedJoin s a b ⌝ }
 {
-    let longest = larger(a.figure, b.figure);
-    total(s, longest, a.low, b.low)
+    let top = larger(a, b);
+    total(s, top, top)
 }
 
 // The row of a call: the routine's longest path and then what follows.
-fn called(s: u64, routine: Reckoned, next: Reckoned) -> Reckoned
-    ensures { λ r. ⌜ r ≡ calledOf s routine next ⌝ }
+fn called(s: u64, routine: u64, next: u64) -> u64
+    ensures { λ r. ⌜ r ≡ packedCall s routine next ⌝ }
 {
-    let both = std::num::wrapping_add_u64(routine.figure, next.figure);
-    total(s, both, routine.low, next.low)
+    let top = larger(routine, next);
+    let both = std::num::wrapping_add_u64(routine, next);
+    total(s, both, top)
 }
 
 // The row of a forbidden place.
@@ -99,6 +105,13 @@ fn bar(p: u32) -> Reckoned
         figure: 0,
         low: p as u64,
     }
+}
+
+// The same, packed.
+fn packed_bar(p: u32) -> u64
+    ensures { λ r. ⌜ r ≡ packedBar p ⌝ }
+{
+    4294967295 - p as u64
 }
 
 fn number_at(table: &[u64], i: usize) -> u64
@@ -124,19 +137,20 @@ pub fn row_of(len: usize, table: &[u64], q: u32) -> Reckoned
     }
 }
 
-// A row in one number: the figure in its lower 30 bits, the lowest forbidden place above them.
-pub fn packed(r: Reckoned) -> u64
-    ensures { λ x. ⌜ x ≡ packedOf r ⌝ }
-{
-    r.figure % 1073741824 + (r.low % 16777216) * 1073741824
-}
-
 fn unpacked(x: u64) -> Reckoned
     ensures { λ r. ⌜ r ≡ unpackedOf x ⌝ }
 {
-    Reckoned {
-        figure: x % 1073741824,
-        low: x / 1073741824,
+    let y = x % HALF;
+    if BAR < y {
+        Reckoned {
+            figure: 0,
+            low: 4294967295 - y,
+        }
+    } else {
+        Reckoned {
+            figure: y,
+            low: NONE,
+        }
     }
 }
 
@@ -153,6 +167,19 @@ pub fn level_row(len: usize, table: &[u64], depth: u32, q: u32) -> Reckoned
     }
 }
 
+// The same, packed.
+fn packed_row(len: usize, table: &[u64], depth: u32, q: u32) -> u64
+    ensures { λ r. ⌜ r ≡ packedAt len (now (table .entry)) depth q ⌝ }
+{
+    let at = q as usize;
+    if at < len {
+        let x = number_at(table, at + (depth % 2) as usize);
+        x % HALF
+    } else {
+        packed_bar(q)
+    }
+}
+
 // What a table is left with, of the row of p with eight levels left.
 pub fn shown(p: u32, r: Reckoned) -> Reckoned
     ensures { λ x. ⌜ x ≡ shownOf p r ⌝ }
@@ -160,12 +187,12 @@ pub fn shown(p: u32, r: Reckoned) -> Reckoned
     if LIMIT < r.figure { bar(p) } else { r }
 }
 
-// The row of p by the rows of n and t, which follow it.
-fn above(len: usize, table: &[u64], depth: u32, n: u32, t: u32, s: u64) -> Reckoned
-    ensures { λ r. ⌜ r ≡ joined s (levelOf len (now (table .entry)) depth n) (levelOf len (now (table .entry)) depth t) ⌝ }
+// The packed row of p by the rows of n and t, which follow it.
+fn above(len: usize, table: &[u64], depth: u32, n: u32, t: u32, s: u64) -> u64
+    ensures { λ r. ⌜ r ≡ packedJoin s (packedAt len (now (table .entry)) depth n) (packedAt len (now (table .entry)) depth t) ⌝ }
 {
-    let a = level_row(len, table, depth, n);
-    let b = level_row(len, table, depth, t);
+    let a = packed_row(len, table, depth, n);
+    let b = packed_row(len, table, depth, t);
     join(s, a, b)
 }
 
@@ -177,43 +204,73 @@ fn goes_back(p: u32, n: u32, t: u32) -> bool
 }
 
 // The same, where a way that does not go up forbids p.
-fn upward(len: usize, table: &[u64], depth: u32, p: u32, n: u32, t: u32, s: u64) -> Reckoned
-    ensures { λ r. ⌜ r ≡ upwardOf (levelOf len (now (table .entry)) depth) (levelOf len (now (table .entry)) (depth - 1)) p n t s ⌝ }
+fn upward(len: usize, table: &[u64], depth: u32, p: u32, n: u32, t: u32, s: u64) -> u64
+    ensures { λ r. ⌜ r ≡ packedUp (packedAt len (now (table .entry)) depth) (packedAt len (now (table .entry)) (depth - 1)) p n t s ⌝ }
 {
     let back = goes_back(p, n, t);
     if back {
-        bar(p)
+        packed_bar(p)
     } else {
         above(len, table, depth, n, t, s)
     }
 }
 
 // The row of a call at p: it may enter any place, with a level less, and goes on at n.
-fn entered(len: usize, table: &[u64], depth: u32, p: u32, n: u32, t: u32, s: u64) -> Reckoned
-    ensures { λ r. ⌜ r ≡ enteredOf (levelOf len (now (table .entry)) depth) (levelOf len (now (table .entry)) (depth - 1)) depth p n t s ⌝ }
+fn entered(len: usize, table: &[u64], depth: u32, p: u32, n: u32, t: u32, s: u64) -> u64
+    ensures { λ r. ⌜ r ≡ packedIn (packedAt len (now (table .entry)) depth) (packedAt len (now (table .entry)) (depth - 1)) depth p n t s ⌝ }
 {
     if depth == 0 {
-        return bar(p);
+        return packed_bar(p);
     }
-    let routine = level_row(len, table, depth - 1, t);
-    let next = level_row(len, table, depth, n);
+    let routine = packed_row(len, table, depth - 1, t);
+    let next = packed_row(len, table, depth, n);
     called(s, routine, next)
 }
 
-// The row of the place p with the flow f and `depth` levels of calls left, from the rows of the places above it, and of all places with a level less.
-pub fn reckon(len: usize, table: &[u64], depth: u32, p: u32, f: Flow) -> Reckoned
-    ensures { λ r. ⌜ r ≡ reckonedOf (levelOf len (now (table .entry)) depth) (levelOf len (now (table .entry)) (depth - 1)) depth p f ⌝ }
+// The packed row of the place p, where `to` and `on` are what is noted there, with `depth` levels of calls left: from the rows of the places above it, and of
+// all places with a level less.
+pub fn reckon(len: usize, table: &[u64], depth: u32, p: u32, to: u64, on: u64) -> u64
+    ensures { λ r. ⌜ r ≡ packedFlow (packedAt len (now (table .entry)) depth) (packedAt len (now (table .entry)) (depth - 1)) depth p (notedOf to on) ⌝ }
+{
+    let kind = to / PLACES;
+    if kind == 0 {
+        return packed_bar(p);
+    }
+    let s = on / PLACES;
+    if kind == 1 {
+        return smaller(s, HELD);
+    }
+    let n = (on % PLACES) as u32;
+    let t = (to % PLACES) as u32;
+    if kind == 2 {
+        return upward(len, table, depth, p, n, t, s);
+    }
+    entered(len, table, depth, p, n, t, s)
+}
+
+fn notes_for(kind: u64, n: u32, t: u32, s: u64) -> Notes
+    requires { ⌜ kind < 4 ⌝ }
+    ensures { λ r. ⌜ r ≡ notesFor kind n t s ⌝ }
+{
+    let target = t as u64;
+    let next = n as u64;
+    Notes {
+        to: (target % PLACES + kind * PLACES) * HALF,
+        on: (next % PLACES + (s % 256) * PLACES) * HALF,
+    }
+}
+
+// What is to be noted of a place with the flow f. Why there is nothing to follow is not.
+pub fn noted(f: Flow) -> Notes
+    ensures { λ r. ⌜ r ≡ notesOf f ⌝ }
 {
     match f {
-        Flow::Next(n, s) => upward(len, table, depth, p, n, n, s),
-        Flow::Jump(t, s) => upward(len, table, depth, p, t, t, s),
-        Flow::Either(n, t, s) => upward(len, table, depth, p, n, t, s),
-        Flow::Call(n, t, s) => entered(len, table, depth, p, n, t, s),
-        Flow::Ends(s) => Reckoned {
-            figure: smaller(s, HELD),
-            low: NONE,
-        },
-        Flow::Stop(_) => bar(p),
+        Flow::Next(n, s) => notes_for(2, n, n, s),
+        Flow::Jump(t, s) => notes_for(2, t, t, s),
+        Flow::Either(n, t, s) => notes_for(2, n, t, s),
+        Flow::Call(n, t, s) => notes_for(3, n, t, s),
+        Flow::Ends(s) => notes_for(1, 0, 0, s),
+        Flow::Stop(_) => notes_for(0, 0, 0, 0),
     }
 }
 

@@ -5,6 +5,7 @@ use mathlib.Core.Bool.{Bool, true, false, cond, not}
 use mathlib.Core.List.{List}
 use lib.Dec.{ltb, eqb}
 use lib.ListN.{length, getD}
+use Rattle.arith.specs.Widths.{num}
 use Rattle.refusal.specs.declared.Refusal.the-variants.{BadBoard, BudgetTooLarge}
 use Rattle.registers.specs.Condition.{byteOf}
 use Rattle.registers.specs.declared.Condition.{Condition}
@@ -23,6 +24,10 @@ twoAt w i = longer (longer 0 (getD w i 0)) (getD w (i + 1) 0)
 
 abbrev pub fourAt : List ℕ → ℕ → ℕ
 fourAt w i = longer (longer (longer (longer 0 (getD w i 0)) (getD w (i + 1) 0)) (getD w (i + 2) 0)) (getD w (i + 3) 0)
+
+-- four flags, each in a byte of its own
+abbrev pub apart : Bool → Bool → Bool → Bool → ℕ
+apart a b c d = num a + 256 * num b + 65536 * num c + 16777216 * num d
 
 -- the record that begins at byte i does not describe this moment
 abbrev pub differsAt : List ℕ → ℕ → ℕ → Condition → ℕ → Bool

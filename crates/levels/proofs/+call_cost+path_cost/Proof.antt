@@ -1,15 +1,13 @@
 -- `path_cost` and `call_cost` meet their contracts, together: remaining depth falls, and then remaining places.
 -- Assumes nothing.
 use mathlib.Core.Path.{_∙_}
-use Prim.Native.Nat.{ℕ, _+_, _-_, _*_, _<_}
+use Prim.Native.Nat.{ℕ, _+_, _*_, _<_}
 use native.Mathlib.Omega.{arith}
 use borrow.Author.Needs.{needs}
-use lib.ListN.{length, length-set}
+use lib.ListN.{length}
 use denote.Ref.{now}
-use Rattle.codes.proofs.Laws.{bytes-of}
 use Rattle.listing.specs.Listing.{flowAt}
-use Rattle.listing.proofs.Listed.{listing}
-use Rattle.levels.proofs.Turns.{none-left, level-below, no-row, at-first, halves, one-row}
+use Rattle.levels.proofs.Turns.{none-left, level-below, no-row, at-first, ready, halves}
 use borrow.Fn.Kinds.{In}
 use borrow.Fn.PlainCycle.{Measures, is, falls, and}
 use Rattle.levels.proofs.call_cost.Reads as call-cost
@@ -18,7 +16,8 @@ use Rattle.levels.proofs.+call_cost+path_cost.Lts-call_cost as call-cos
 use Rattle.levels.proofs.path_cost.Reads as path-cost
 use Rattle.levels.proofs.path_cost.Kinds as path-cost-kinds
 use Rattle.levels.proofs.+call_cost+path_cost.Lts-path_cost as path-cost-lts
-use Rattle.levels.proofs.row.Reads as row-reads
+use Rattle.levels.proofs.note.Reads as note-reads
+use Rattle.levels.proofs.stretch.Reads as stretch-reads
 use Rattle.levels.proofs.+call_cost+path_cost.{statement}
 use Rattle.levels.proofs.+call_cost+path_cost.Tie.{close}
 
@@ -42,35 +41,60 @@ abbrev path-cost-below : ℕ → In 2 path-cost-kinds.ps
 path-cost-below t =
     and 2 path-cost-kinds.ps (falls 2 path-cost-kinds.ps _<_ μ-path-cost t) path-cost.Pre
 
-call-cost-returns :
-    (t : ℕ) →
-    call-cost-lts.Need-returns (path-cost-below t, path-cost.Post) (call-cost-at t) call-cost.Post
-call-cost-returns t c = let s = c .before .before .before in none-left (flowAt (s .args .k) (now (s .args .rom))) (length (now (s .args .rom))) (s .args .depth) (now (s .args .table)) (omega arith)
+call-cost-note-requires : (t : ℕ) → call-cost-lts.Need-note-requires (
+  note-reads.Asked,
+  note-reads.Learnt,
+  path-cost-below t,
+  path-cost.Post,
+) (call-cost-at t) call-cost.Post
+call-cost-note-requires t c κs = let g = c .before .before .before .before .pre .1 in record { even = g .even; small = g .small; room = g .room; levels = omega arith }
+
+call-cost-same-length : (t : ℕ) → call-cost-lts.Need-same-length (
+  note-reads.Asked,
+  note-reads.Learnt,
+  path-cost-below t,
+  path-cost.Post,
+) (call-cost-at t) call-cost.Post
+call-cost-same-length t c = c .before .before .note .ensures .same-length
+
+call-cost-returns : (t : ℕ) → call-cost-lts.Need-returns (
+  note-reads.Asked,
+  note-reads.Learnt,
+  path-cost-below t,
+  path-cost.Post,
+) (call-cost-at t) call-cost.Post
+call-cost-returns t c = let s = c .before .before .before .before .before .before .before in none-left (flowAt (s .args .k) (now (s .args .rom))) (length (now (s .args .rom))) (omega arith) (c .before .before .note .ensures)
 
 call-cost-sub-path-cost : (t : ℕ) → call-cost-lts.Need-sub-path-cost (
+  note-reads.Asked,
+  note-reads.Learnt,
   path-cost-below t,
   path-cost.Post,
 ) (call-cost-at t) call-cost.Post
 call-cost-sub-path-cost t c = search needs
 
 call-cost-path-cost-requires : (t : ℕ) → call-cost-lts.Need-path-cost-requires (
+  note-reads.Asked,
+  note-reads.Learnt,
   path-cost-below t,
   path-cost.Post,
 ) (call-cost-at t) call-cost.Post
 call-cost-path-cost-requires t c κs = let s = c .before .before .before .before in let g = s .pre .1 in (omega (arith, s .pre .0, g .small), ((record { even = g .even; small = g .small; room = g .room; levels = omega (arith, g .levels) }, omega arith), (λ h. absurd (omega arith))))
 
-call-cost-same-length : (t : ℕ) → call-cost-lts.Need-same-length (
+call-cost-same-length-2 : (t : ℕ) → call-cost-lts.Need-same-length-2 (
+  note-reads.Asked,
+  note-reads.Learnt,
   path-cost-below t,
   path-cost.Post,
 ) (call-cost-at t) call-cost.Post
-call-cost-same-length t c = c .before .before .path-cost .ensures .costed .same-length
+call-cost-same-length-2 t c = c .before .before .path-cost .ensures .costed .same-length
 
-call-cost-returns-2 :
-    (t : ℕ) →
-    call-cost-lts.Need-returns-2
-    (path-cost-below t, path-cost.Post)
-    (call-cost-at t)
-    call-cost.Post
+call-cost-returns-2 : (t : ℕ) → call-cost-lts.Need-returns-2 (
+  note-reads.Asked,
+  note-reads.Learnt,
+  path-cost-below t,
+  path-cost.Post,
+) (call-cost-at t) call-cost.Post
 call-cost-returns-2 t c = let s = c .before .before .before .before .before .before .before in level-below (flowAt (s .args .k) (now (s .args .rom))) (length (now (s .args .rom))) (omega (arith, s .pre .1 .even)) (omega arith) (c .before .before .path-cost .ensures)
 
 path-cost-call-cost-requires : (t : ℕ) → path-cost-lts.Need-call-cost-requires (
@@ -78,8 +102,8 @@ path-cost-call-cost-requires : (t : ℕ) → path-cost-lts.Need-call-cost-requir
   call-cost.Post,
   path-cost-below t,
   path-cost.Post,
-  row-reads.Asked,
-  row-reads.Learnt,
+  stretch-reads.Asked,
+  stretch-reads.Learnt,
 ) (path-cost-at t) path-cost.Post
 path-cost-call-cost-requires t c κs = let s = c .before .before .before .before .before in (omega (arith, s .pre .0), s .pre .1 .0 .0)
 
@@ -88,8 +112,8 @@ path-cost-same-length : (t : ℕ) → path-cost-lts.Need-same-length (
   call-cost.Post,
   path-cost-below t,
   path-cost.Post,
-  row-reads.Asked,
-  row-reads.Learnt,
+  stretch-reads.Asked,
+  stretch-reads.Learnt,
 ) (path-cost-at t) path-cost.Post
 path-cost-same-length t c = c .before .before .call-cost .ensures .same-length
 
@@ -98,8 +122,8 @@ path-cost-returns : (t : ℕ) → path-cost-lts.Need-returns (
   call-cost.Post,
   path-cost-below t,
   path-cost.Post,
-  row-reads.Asked,
-  row-reads.Learnt,
+  stretch-reads.Asked,
+  stretch-reads.Learnt,
 ) (path-cost-at t) path-cost.Post
 path-cost-returns t c = let s = c .before .before .before .before .before .before .before .before in no-row (flowAt (s .args .k) (now (s .args .rom))) (length (now (s .args .rom))) (omega arith) (c .before .before .call-cost .ensures)
 
@@ -108,8 +132,8 @@ path-cost-returns-2 : (t : ℕ) → path-cost-lts.Need-returns-2 (
   call-cost.Post,
   path-cost-below t,
   path-cost.Post,
-  row-reads.Asked,
-  row-reads.Learnt,
+  stretch-reads.Asked,
+  stretch-reads.Learnt,
 ) (path-cost-at t) path-cost.Post
 path-cost-returns-2 t c = let s = c .before .before .before .before in let h : 0 < s .args .done = omega (arith, c .if2 .left) in at-first (flowAt (s .args .k) (now (s .args .rom))) (length (now (s .args .rom))) (now (s .args .table)) (omega arith) (s .pre .1 .1 h)
 
@@ -118,136 +142,54 @@ path-cost-path-cost-requires : (t : ℕ) → path-cost-lts.Need-path-cost-requir
   call-cost.Post,
   path-cost-below t,
   path-cost.Post,
-  row-reads.Asked,
-  row-reads.Learnt,
+  stretch-reads.Asked,
+  stretch-reads.Learnt,
 ) (path-cost-at t) path-cost.Post
 path-cost-path-cost-requires t c κs = let s = c .before .before .before .before .before in (omega (arith, s .pre .0), ((s .pre .1 .0 .0, omega (arith, s .pre .1 .0 .1)), s .pre .1 .1))
 
-path-cost-add-p : (t : ℕ) → path-cost-lts.Need-add-p (
+path-cost-stretch-requires : (t : ℕ) → path-cost-lts.Need-stretch-requires (
   call-cost-below t,
   call-cost.Post,
   path-cost-below t,
   path-cost.Post,
-  row-reads.Asked,
-  row-reads.Learnt,
+  stretch-reads.Asked,
+  stretch-reads.Learnt,
 ) (path-cost-at t) path-cost.Post
-path-cost-add-p t c = search needs
-
-path-cost-mul-p : (t : ℕ) → path-cost-lts.Need-mul-p (
-  call-cost-below t,
-  call-cost.Post,
-  path-cost-below t,
-  path-cost.Post,
-  row-reads.Asked,
-  row-reads.Learnt,
-) (path-cost-at t) path-cost.Post
-path-cost-mul-p t c = search needs
-
-path-cost-sub-p : (t : ℕ) → path-cost-lts.Need-sub-p (
-  call-cost-below t,
-  call-cost.Post,
-  path-cost-below t,
-  path-cost.Post,
-  row-reads.Asked,
-  row-reads.Learnt,
-) (path-cost-at t) path-cost.Post
-path-cost-sub-p t c = search needs
-
-path-cost-cast-row : (t : ℕ) → path-cost-lts.Need-cast-row (
-  call-cost-below t,
-  call-cost.Post,
-  path-cost-below t,
-  path-cost.Post,
-  row-reads.Asked,
-  row-reads.Learnt,
-) (path-cost-at t) path-cost.Post
-path-cost-cast-row t c = search needs
-
-path-cost-row-requires : (t : ℕ) → path-cost-lts.Need-row-requires (
-  call-cost-below t,
-  call-cost.Post,
-  path-cost-below t,
-  path-cost.Post,
-  row-reads.Asked,
-  row-reads.Learnt,
-) (path-cost-at t) path-cost.Post
-path-cost-row-requires t c κs = search needs
-
-path-cost-cast-at : (t : ℕ) → path-cost-lts.Need-cast-at (
-  call-cost-below t,
-  call-cost.Post,
-  path-cost-below t,
-  path-cost.Post,
-  row-reads.Asked,
-  row-reads.Learnt,
-) (path-cost-at t) path-cost.Post
-path-cost-cast-at t c = search needs
-
-path-cost-add-at : (t : ℕ) → path-cost-lts.Need-add-at (
-  call-cost-below t,
-  call-cost.Post,
-  path-cost-below t,
-  path-cost.Post,
-  row-reads.Asked,
-  row-reads.Learnt,
-) (path-cost-at t) path-cost.Post
-path-cost-add-at t c = search needs
-
-path-cost-mul-table : (t : ℕ) → path-cost-lts.Need-mul-table (
-  call-cost-below t,
-  call-cost.Post,
-  path-cost-below t,
-  path-cost.Post,
-  row-reads.Asked,
-  row-reads.Learnt,
-) (path-cost-at t) path-cost.Post
-path-cost-mul-table t c = search needs
-
-path-cost-slice-write-table : (t : ℕ) → path-cost-lts.Need-slice-write-table (
-  call-cost-below t,
-  call-cost.Post,
-  path-cost-below t,
-  path-cost.Post,
-  row-reads.Asked,
-  row-reads.Learnt,
-) (path-cost-at t) path-cost.Post
-path-cost-slice-write-table t c = search needs
+path-cost-stretch-requires t c κs =
+    let s = c .before .before .before .before .before .before .before .before .before in
+    let n = c .before .before .before .path-cost .ensures in
+    let g = s .pre .1 .0 .0 in (
+      (record { even = g .even; small = g .small; room = omega (arith, g .room, n .costed .same-length); levels = g .levels }, s .pre .1 .0 .1),
+      ready (flowAt (s .args .k) (now (s .args .rom))) (length (now (s .args .rom))) (omega arith) n,
+    )
 
 path-cost-same-length-2 : (t : ℕ) → path-cost-lts.Need-same-length-2 (
   call-cost-below t,
   call-cost.Post,
   path-cost-below t,
   path-cost.Post,
-  row-reads.Asked,
-  row-reads.Learnt,
+  stretch-reads.Asked,
+  stretch-reads.Learnt,
 ) (path-cost-at t) path-cost.Post
-path-cost-same-length-2 t c = simp length-set (c .before .before .before .before .path-cost .ensures .costed .same-length)
+path-cost-same-length-2 t c = c .before .before .stretch .ensures .costed .same-length ∙ c .before .before .before .before .before .before .path-cost .ensures .costed .same-length
 
 path-cost-returns-3 : (t : ℕ) → path-cost-lts.Need-returns-3 (
   call-cost-below t,
   call-cost.Post,
   path-cost-below t,
   path-cost.Post,
-  row-reads.Asked,
-  row-reads.Learnt,
+  stretch-reads.Asked,
+  stretch-reads.Learnt,
 ) (path-cost-at t) path-cost.Post
-path-cost-returns-3 t c =
-    let l = c .before .before .before .before .before .before .before .before .before in
-    let s = l .before in
-    let g = s .pre .1 .0 .0 in
-    let n = c .before .before .before .before .path-cost .ensures in
-    let bytes = bytes-of (now (s .args .rom)) (λ k. omega (arith, l .shared-slice-known .given k)) in
-    one-row (flowAt (s .args .k) (now (s .args .rom))) (length (now (s .args .rom))) (listing (s .args .k) (now (s .args .rom)) bytes (g .even) (g .small)) (s .args .depth)
-    (length (now (s .args .rom)) - (s .args .done + 1) * 2) (c .row .result) (omega (arith, g .even, s .pre .1 .0 .1)) (omega (arith, s .pre .1 .0 .1)) (g .room) (omega (arith, s .pre .1 .0 .1)) n
-    (c .row .ensures) (omega arith)
+path-cost-returns-3 t c = let s = c .before .before .before .before .before .before .before .before .before .before .before .before in halves (flowAt (s .args .k) (now (s .args .rom))) (length (now (s .args .rom))) (omega arith) (c .before .before .before .before .before .before .path-cost .ensures) (c .before .before .stretch .ensures)
 
 path-cost-path-cost-requires-2 : (t : ℕ) → path-cost-lts.Need-path-cost-requires-2 (
   call-cost-below t,
   call-cost.Post,
   path-cost-below t,
   path-cost.Post,
-  row-reads.Asked,
-  row-reads.Learnt,
+  stretch-reads.Asked,
+  stretch-reads.Learnt,
 ) (path-cost-at t) path-cost.Post
 path-cost-path-cost-requires-2 t c κs = let s = c .before .before .before .before .before in (omega (arith, s .pre .0), ((s .pre .1 .0 .0, omega (arith, s .pre .1 .0 .1)), s .pre .1 .1))
 
@@ -256,8 +198,8 @@ path-cost-add-path-cost : (t : ℕ) → path-cost-lts.Need-add-path-cost (
   call-cost.Post,
   path-cost-below t,
   path-cost.Post,
-  row-reads.Asked,
-  row-reads.Learnt,
+  stretch-reads.Asked,
+  stretch-reads.Learnt,
 ) (path-cost-at t) path-cost.Post
 path-cost-add-path-cost t c = search needs
 
@@ -266,8 +208,8 @@ path-cost-sub-path-cost : (t : ℕ) → path-cost-lts.Need-sub-path-cost (
   call-cost.Post,
   path-cost-below t,
   path-cost.Post,
-  row-reads.Asked,
-  row-reads.Learnt,
+  stretch-reads.Asked,
+  stretch-reads.Learnt,
 ) (path-cost-at t) path-cost.Post
 path-cost-sub-path-cost t c = search needs
 
@@ -276,18 +218,27 @@ path-cost-path-cost-requires-3 : (t : ℕ) → path-cost-lts.Need-path-cost-requ
   call-cost.Post,
   path-cost-below t,
   path-cost.Post,
-  row-reads.Asked,
-  row-reads.Learnt,
+  stretch-reads.Asked,
+  stretch-reads.Learnt,
 ) (path-cost-at t) path-cost.Post
-path-cost-path-cost-requires-3 t c κs = let s = c .before .before .before .before .before .before .before .before .before in let n = c .before .before .before .path-cost2 .ensures in let g = s .pre .1 .0 .0 in (omega (arith, s .pre .0), ((record { even = g .even; small = g .small; room = omega (arith, g .room, n .costed .same-length); levels = g .levels }, omega (arith, s .pre .1 .0 .1)), (λ h. (n .costed .below, n .rows))))
+path-cost-path-cost-requires-3 t c κs =
+    let s = c .before .before .before .before .before .before .before .before .before in
+    let n = c .before .before .before .path-cost2 .ensures in
+    let g = s .pre .1 .0 .0 in (
+      omega (arith, s .pre .0),
+      (
+        (record { even = g .even; small = g .small; room = omega (arith, g .room, n .costed .same-length); levels = g .levels }, omega (arith, s .pre .1 .0 .1)),
+        (λ h. ready (flowAt (s .args .k) (now (s .args .rom))) (length (now (s .args .rom))) (omega arith) n),
+      ),
+    )
 
 path-cost-same-length-3 : (t : ℕ) → path-cost-lts.Need-same-length-3 (
   call-cost-below t,
   call-cost.Post,
   path-cost-below t,
   path-cost.Post,
-  row-reads.Asked,
-  row-reads.Learnt,
+  stretch-reads.Asked,
+  stretch-reads.Learnt,
 ) (path-cost-at t) path-cost.Post
 path-cost-same-length-3 t c = c .before .before .path-cost3 .ensures .costed .same-length ∙ c .before .before .before .before .before .before .path-cost2 .ensures .costed .same-length
 
@@ -296,30 +247,34 @@ path-cost-returns-4 : (t : ℕ) → path-cost-lts.Need-returns-4 (
   call-cost.Post,
   path-cost-below t,
   path-cost.Post,
-  row-reads.Asked,
-  row-reads.Learnt,
+  stretch-reads.Asked,
+  stretch-reads.Learnt,
 ) (path-cost-at t) path-cost.Post
 path-cost-returns-4 t c = let s = c .before .before .before .before .before .before .before .before .before .before .before .before in halves (flowAt (s .args .k) (now (s .args .rom))) (length (now (s .args .rom))) (omega (arith, s .pre .1 .0 .1)) (c .before .before .before .before .before .before .path-cost2 .ensures) (c .before .before .path-cost3 .ensures)
 
 pub +call-cost+path-cost-spec : {M : Type 1} → statement M
 +call-cost+path-cost-spec = close μ-call-cost μ-path-cost (λ t. call-cost-lts.spec (
+  note-reads.Asked,
+  note-reads.Learnt,
   path-cost-below t,
   path-cost.Post,
 )
     (call-cost-at t)
     call-cost.Post
+    (call-cost-note-requires t)
+    (call-cost-same-length t)
     (call-cost-returns t)
     (call-cost-sub-path-cost t)
     (call-cost-path-cost-requires t)
-    (call-cost-same-length t)
+    (call-cost-same-length-2 t)
     (call-cost-returns-2 t))
     λ t. path-cost-lts.spec (
       call-cost-below t,
       call-cost.Post,
       path-cost-below t,
       path-cost.Post,
-      row-reads.Asked,
-      row-reads.Learnt,
+      stretch-reads.Asked,
+      stretch-reads.Learnt,
     )
     (path-cost-at t)
     path-cost.Post
@@ -328,15 +283,7 @@ pub +call-cost+path-cost-spec : {M : Type 1} → statement M
     (path-cost-returns t)
     (path-cost-returns-2 t)
     (path-cost-path-cost-requires t)
-    (path-cost-add-p t)
-    (path-cost-mul-p t)
-    (path-cost-sub-p t)
-    (path-cost-cast-row t)
-    (path-cost-row-requires t)
-    (path-cost-cast-at t)
-    (path-cost-add-at t)
-    (path-cost-mul-table t)
-    (path-cost-slice-write-table t)
+    (path-cost-stretch-requires t)
     (path-cost-same-length-2 t)
     (path-cost-returns-3 t)
     (path-cost-path-cost-requires-2 t)
