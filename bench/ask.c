@@ -167,7 +167,7 @@ static void list(uint32_t from, uint32_t to)
 /* What a run is asked. */
 struct asked {
     uint32_t regs[H8_REGISTERS], length, stop, budget;
-    int routine;
+    int routine, trace;
 };
 
 static struct asked asked(uint32_t entry, char **word, int words)
@@ -175,7 +175,7 @@ static struct asked asked(uint32_t entry, char **word, int words)
     struct asked a = {.stop = H8_NONE, .budget = H8_BUDGET_MAX};
     a.regs[H8_PC] = entry;
     for (int i = 0; i < words; i++)
-        a.routine |= !strcmp(word[i], "--routine");
+        a.routine |= !strcmp(word[i], "--routine"), a.trace |= !strcmp(word[i], "--trace");
     for (int i = 0; i + 1 < words; i++) {
         if (!strcmp(word[i], "--ram"))
             a.length = number(word[i + 2]);
@@ -207,15 +207,35 @@ static uint32_t ran(struct asked *a, uint64_t answer[H8_ROUTINE_ANSWER])
     return h8_run(board, H8_BOARD, rom, rom_n, ram, a->length, a->regs, H8_REGISTERS, a->stop, a->budget, answer, 6);
 }
 
+/* So many steps from these registers, one by one, with what each touched. */
+static void trace(const struct asked *a, uint32_t *regs, uint64_t steps)
+{
+    uint32_t answer[H8_STEP_ANSWER];
+    memset(ram, 0, sizeof ram);
+    while (steps-- > 0) {
+        print_place("place", regs[H8_PC]);
+        h8_step(board, H8_BOARD, rom, rom_n, ram, a->length, regs, H8_REGISTERS, answer, H8_STEP_ANSWER);
+        printf("states %u\n", answer[3]);
+        for (const uint32_t *t = answer + H8_ACCESSES; t < answer + H8_ACCESSES + H8_ACCESS * answer[H8_COUNT]; t += H8_ACCESS) {
+            char name[16];
+            snprintf(name, sizeof name, "%s %u", t[H8_WRITE] ? "write" : "read", t[H8_BYTES]);
+            print_place(name, t[H8_ADDRESS]);
+        }
+    }
+}
+
 static void run(struct asked a)
 {
     static const char *const ended[] = {"stop", "budget", "refusal", "return", "ninth", "elsewhere"};
     uint64_t answer[H8_ROUTINE_ANSWER];
+    struct asked first = a;
     uint32_t refusal = ran(&a, answer);
     if (refusal == 1 || refusal == 12) {    /* nothing ran: the arguments are wrong */
         print_refusal(answer);
         return;
     }
+    if (a.trace)
+        trace(&a, first.regs, answer[3]);
     printf("steps %llu\nstates %llu\nended %s\n", (ull)answer[3], (ull)answer[4], ended[answer[5]]);
     if (answer[5] == H8_ELSEWHERE)
         print_place("kept", answer[H8_KEPT + answer[H8_KEPT_COUNT] - 1]);
@@ -435,8 +455,8 @@ static void print_questions(const char *name, int k)
     printf("$ h8 run %s %u --ram 0xffef10 %u --budget %u --er %u 0x%x --er %u 0xffef%02x --er 7 0xffef%02x --stop %u %s--plain\n", name,
            entry, length, 1 + below(50), below(3), below(1u << 31), 3 + below(4), 0x10 + below(64), 0x10 + below(128), 2 * below(40),
            some_port(length));
-    printf("$ h8 run %s %u --ram 0xffef10 %u --er 1 0x%x --er 7 0xffef%02x --routine %s--plain\n", name, entry, length, 2 * below(40),
-           0x10 + below(128), some_port(length));
+    printf("$ h8 run %s %u --ram 0xffef10 %u --er 1 0x%x --er 7 0xffef%02x --routine %s%s--plain\n", name, entry, length, 2 * below(40),
+           0x10 + below(128), k % 3 ? "" : "--trace ", some_port(length));
     if (k % 2 == 0)
         printf("$ h8 way %s %u --deep --plain\n", name, entry);
     if (k % 4 == 0 && rom_n)

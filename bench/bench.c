@@ -234,11 +234,70 @@ static void show_memory(const char *title, uint32_t base, const uint8_t *was, co
             say("%-18s %06X: %02X -> %02X", title, base + (uint32_t)i, was[i], is[i]);
 }
 
-struct side { const uint32_t *regs; const uint8_t *ram; };
-
-static void show_step(const struct state *s, struct outcome o, struct side model, struct side library, const uint32_t *answer)
+uint32_t *lend_step_answer(void)
 {
-    fail("step differs from the model: %s", o.form >= 0 ? forms[o.form].name : "no form");
+    uint32_t *answer = lend(&answer_lender, 4 * H8_STEP_ANSWER);
+    memset(answer, 0xEE, 4 * H8_STEP_ANSWER);
+    return answer;
+}
+
+int untouched(const uint32_t *answer)
+{
+    for (int i = H8_COUNT; i < H8_STEP_ANSWER; i++)
+        if (answer[i])
+            return 0;
+    return 1;
+}
+
+const char *list_text(const uint32_t *answer)
+{
+    static char texts[2][120];
+    static int which;
+    char *text = texts[which ^= 1];
+    const uint32_t *a = answer + H8_ACCESSES;
+    *text = 0;
+    for (uint32_t i = 0; i < answer[H8_COUNT] && i < TOUCHES; i++, a += H8_ACCESS)
+        snprintf(text + strlen(text), sizeof texts[0] - strlen(text), "%s%s%u %06X", i ? " " : "", a[H8_WRITE] ? "W" : "R", a[H8_BYTES],
+                 a[H8_ADDRESS]);
+    return text;
+}
+
+uint32_t states_by_list(int form, struct area area, const uint32_t *answer)
+{
+    uint32_t states = forms[form].states;
+    const uint32_t *a = answer + H8_ACCESSES;
+    for (uint32_t i = 0; i < answer[H8_COUNT] && i < TOUCHES; i++, a += H8_ACCESS)
+        if (a[H8_ADDRESS] >= area.base && a[H8_ADDRESS] < area.end)
+            states += a[H8_BYTES] == 2 && area.bus == 8 ? 4 : 1;
+    return states;
+}
+
+void step_answer(struct outcome o, uint32_t answer[H8_STEP_ANSWER])
+{
+    const uint32_t first[H8_ACCESSES] = {o.number, o.place, o.group, o.states, o.touches};
+    memset(answer, 0, 4 * H8_STEP_ANSWER);
+    memcpy(answer, first, sizeof first);
+    for (uint32_t i = 0; i < o.touches; i++) {
+        uint32_t *a = answer + H8_ACCESSES + H8_ACCESS * i;
+        a[H8_ADDRESS] = o.touch[i].address;
+        a[H8_BYTES] = o.touch[i].bytes;
+        a[H8_WRITE] = o.touch[i].write;
+    }
+}
+
+struct side { const uint32_t *regs; const uint8_t *ram; const uint32_t *answer; };
+
+static void show_answer(const char *title, const uint32_t *a)
+{
+    say("%s number %u place %06X group %u states %u; %u accesses: %s", title, a[0], a[1], a[2], a[3], a[H8_COUNT], list_text(a));
+    for (uint32_t i = a[H8_COUNT]; i < TOUCHES; i++)
+        if (a[H8_ACCESSES + H8_ACCESS * i] | a[H8_ACCESSES + H8_ACCESS * i + 1] | a[H8_ACCESSES + H8_ACCESS * i + 2])
+            say("and past them numbers that are not 0");
+}
+
+static void show_step(const struct state *s, int form, struct side model, struct side library)
+{
+    fail("step differs from the model: %s", form >= 0 ? forms[form].name : "no form");
     show_code(s->rom, s->rom_n, s->regs[H8_PC]);
     say("board: read-only %u, working %u at %06X, ports %06X to %06X, bus %u", s->rom_n, s->ram_n, s->base, area_of(s).base,
         area_of(s).end, area_of(s).bus);
@@ -247,30 +306,32 @@ static void show_step(const struct state *s, struct outcome o, struct side model
     show_registers("after, model", model.regs);
     show_memory("memory, library", s->base, s->ram, library.ram, s->ram_n);
     show_memory("memory, model", s->base, s->ram, model.ram, s->ram_n);
-    say("answer, library: number %u place %06X group %u states %u", answer[0], answer[1], answer[2], answer[3]);
-    say("answer, model:   number %u place %06X group %u states %u", o.number, o.place, o.group, o.states);
+    show_answer("answer, library:", library.answer);
+    show_answer("answer, model:  ", model.answer);
 }
 
 struct area area_of(const struct state *s) { return s->ports ? s->area : no_ports(s->base); }
 
 struct outcome compare_step(const struct state *s)
 {
-    uint32_t model_regs[10];
+    uint32_t model_regs[10], model_answer[H8_STEP_ANSWER];
     uint8_t model_ram[SMALL];
     struct board b = {s->base, s->rom, s->rom_n, model_ram, s->ram_n, area_of(s)};
     uint8_t *rom = lend(&rom_lender, s->rom_n), *ram = lend(&ram_lender, s->ram_n);
-    uint32_t *regs = lend(&regs_lender, 40), *answer = lend(&answer_lender, 16), returned;
+    uint32_t *regs = lend(&regs_lender, 40), *answer = lend_step_answer(), returned;
     memcpy(rom, s->rom, s->rom_n);
     memcpy(ram, s->ram, s->ram_n);
     memcpy(regs, s->regs, 40);
     memcpy(model_ram, s->ram, s->ram_n);
     memcpy(model_regs, s->regs, 40);
-    memset(answer, 0xEE, 16);
-    returned = h8_step(lend_board(s->base, b.area), H8_BOARD, rom, s->rom_n, ram, s->ram_n, regs, 10, answer, 4);
+    returned = h8_step(lend_board(s->base, b.area), H8_BOARD, rom, s->rom_n, ram, s->ram_n, regs, 10, answer, H8_STEP_ANSWER);
     struct outcome o = model_step(&b, model_regs);
-    if (returned != o.number || answer[0] != o.number || answer[1] != o.place || answer[2] != o.group || answer[3] != o.states
-        || memcmp(regs, model_regs, 40) || memcmp(ram, model_ram, s->ram_n))
-        show_step(s, o, (struct side){model_regs, model_ram}, (struct side){regs, ram}, answer);
+    step_answer(o, model_answer);
+    if (returned != o.number || memcmp(answer, model_answer, sizeof model_answer) || memcmp(regs, model_regs, 40)
+        || memcmp(ram, model_ram, s->ram_n))
+        show_step(s, o.form, (struct side){model_regs, model_ram, model_answer}, (struct side){regs, ram, answer});
+    if (!o.number && answer[3] != states_by_list(o.form, b.area, answer))
+        fail("the states of a step are not those of its list: %s", forms[o.form].name);
     if (memcmp(rom, s->rom, s->rom_n) || !guards_stand(&board_lender) || !guards_stand(&rom_lender) || !guards_stand(&ram_lender)
         || !guards_stand(&regs_lender) || !guards_stand(&answer_lender))
         fail("a step wrote outside what it may write: %s", o.form >= 0 ? forms[o.form].name : "no form");
@@ -283,7 +344,8 @@ static void runs(void) { test_runs(samples); }
 
 static const struct { const char *part; void (*run)(void); } parts[] = {
     {"reference", test_reference}, {"marked", test_marked}, {"codes", test_codes}, {"encode", test_encode},
-    {"steps", test_steps}, {"bytes", test_bytes}, {"bits", test_bits}, {"left", test_left_out}, {"limits", test_limits}, {"runs", runs},
+    {"steps", test_steps}, {"bytes", test_bytes}, {"bits", test_bits}, {"touches", test_touches},
+    {"left", test_left_out}, {"limits", test_limits}, {"runs", runs},
     {"figures", test_figures}, {"calls", test_calls}, {"routine", test_routine}, {"ports", test_ports}, {"replay", test_replay},
     {"cuts", test_cuts}, {"bad", test_bad_input},
 };

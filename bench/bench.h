@@ -54,6 +54,14 @@ struct outcome compare_step(const struct state *s);
 struct area area_of(const struct state *s);
 const char *refused_code(int answer);       /* what decode's 3, 4 or 15 says of the bytes */
 
+/* THE ANSWER OF A STEP. Lent and marked; whether it tells no accesses; the list as text, as "R2 FFEF10 W1 FFEF20"; and the states that a
+   form has by the list, reckoned here: what document 01 says of it, which counts two an access, and what each takes beyond two. */
+uint32_t *lend_step_answer(void);
+void step_answer(struct outcome o, uint32_t answer[H8_STEP_ANSWER]);    /* what the library should answer */
+int untouched(const uint32_t *answer);
+const char *list_text(const uint32_t *answer);
+uint32_t states_by_list(int form, struct area a, const uint32_t *answer);
+
 /* Figure and way of a listing of at most ENUMERATED bytes, from every place, against the enumeration and the table of levels; h8_way from a
    place by a table, upward to the return, so that the states add up; and a run of a routine by the library and by the model, compared whole:
    afterwards b->ram and regs are as it left them. */
@@ -72,6 +80,7 @@ void test_encode(void);
 void test_steps(void);
 void test_bytes(void);
 void test_bits(void);
+void test_touches(void);
 void test_left_out(void);
 void test_limits(void);
 void test_ports(void);

@@ -15,8 +15,8 @@ struct cpu {
     uint32_t here;                          /* the instruction's own address */
     struct { uint8_t *cell, byte; } store[4];
     int stores;                             /* made only if nothing is refused */
-    struct { uint32_t at; int width; } access[4];
-    int accesses;                           /* bytes and words, in the order made */
+    struct touch touch[TOUCHES];
+    uint32_t touches;                       /* written down byte by byte as they are made */
 };
 
 static uint32_t bit(uint32_t x, int i) { return x >> i & 1; }
@@ -87,22 +87,23 @@ static const uint8_t *any_cell(const struct cpu *c, uint32_t address)
 
 static uint32_t low24(uint32_t x) { return x & 0xFFFFFF; }
 
-/* The bus is taken once for a byte or a word, twice for a longword: its words one behind the other. */
-static void take_bus(struct cpu *c, int width, uint32_t a)
+/* A byte is touched. The bus carries a word's two bytes at once, so that its lower byte comes to the upper one's; a byte alone, and each
+   word of a longword, is an access of its own. */
+static void touch(struct cpu *c, int width, int i, uint32_t address, uint32_t write)
 {
-    for (int i = 0; i < (width == H8_LONG ? 2 : 1); i++) {
-        c->access[c->accesses].at = low24(a + 2 * (uint32_t)i);
-        c->access[c->accesses++].width = width == H8_BYTE ? H8_BYTE : H8_WORD;
-    }
+    if (width != H8_BYTE && i % 2 == 1)
+        c->touch[c->touches - 1].bytes++;
+    else
+        c->touch[c->touches++] = (struct touch){address, 1, write};
 }
 
 /* An operand in memory, byte by byte from its address; words and longwords begin at an even one. */
 static uint32_t load(struct cpu *c, int width, uint32_t ea)
 {
     uint32_t x = 0, a = width == H8_BYTE ? low24(ea) : low24(ea) & ~1u;
-    take_bus(c, width, a);
     for (int i = 0; i < bytes_of(width); i++) {
         const uint8_t *cell = any_cell(c, low24(a + (uint32_t)i));
+        touch(c, width, i, low24(a + (uint32_t)i), 0);
         if (!cell)
             refuse(c, 5, low24(a + (uint32_t)i));
         x = x << 8 | (cell ? *cell : 0);
@@ -113,9 +114,9 @@ static uint32_t load(struct cpu *c, int width, uint32_t ea)
 static void save(struct cpu *c, int width, uint32_t ea, uint32_t x)
 {
     uint32_t a = width == H8_BYTE ? low24(ea) : low24(ea) & ~1u;
-    take_bus(c, width, a);
     for (int i = 0; i < bytes_of(width); i++) {
         uint8_t *cell = working_cell(c, low24(a + (uint32_t)i));
+        touch(c, width, i, low24(a + (uint32_t)i), 1);
         if (!cell)
             refuse(c, 6, low24(a + (uint32_t)i));
         c->store[c->stores].cell = cell;
@@ -673,9 +674,9 @@ static uint32_t states_of(const struct cpu *c, int form)
 {
     const uint32_t *of = cycles_of[form];
     uint32_t states = fetched(form), bytes = 0, words = 0;
-    for (int i = 0; i < c->accesses; i++) {
-        states += states_at(c->board->area, c->access[i].width, c->access[i].at);
-        c->access[i].width == H8_BYTE ? bytes++ : words++;
+    for (uint32_t i = 0; i < c->touches; i++) {
+        states += states_at(c->board->area, c->touch[i].bytes == 1 ? H8_BYTE : H8_WORD, c->touch[i].address);
+        c->touch[i].bytes == 1 ? bytes++ : words++;
     }
     return bytes == of[BYTE_DATA] && words == of[VECTOR] + of[STACK] + of[WORD_DATA] ? states : 4711;
 }
@@ -755,6 +756,8 @@ struct outcome model_step(const struct board *b, uint32_t regs[10])
         return (struct outcome){.number = c.number, .place = c.place, .form = d.form};
     give_registers(&c, regs);
     out.states = states_of(&c, d.form);
+    out.touches = c.touches;
+    memcpy(out.touch, c.touch, sizeof out.touch);
     return out;
 }
 
@@ -804,7 +807,7 @@ static int routine_step(const struct board *b, uint32_t regs[10], struct routine
     r->steps++;
     r->states += o.states;
     if (calls) {
-        const uint8_t *top = b->ram + (low24(after[7]) & ~1u) - b->base, *low = b->ram + (low24(after[7] + 2) & ~1u) - b->base;
+        const uint8_t *top = b->ram + (o.touch[o.touches - 2].address - b->base), *low = b->ram + (o.touch[o.touches - 1].address - b->base);
         r->kept[r->count++] = (uint32_t)top[1] << 16 | (uint32_t)low[0] << 8 | low[1];
         r->deepest = r->count > r->deepest ? r->count : r->deepest;
     }

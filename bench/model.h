@@ -19,9 +19,17 @@ struct board {
     struct area area;
 };
 
+/* A data access: a byte or a word. */
+struct touch {
+    uint32_t address, bytes, write;         /* write: 0 a read, 1 a write */
+};
+
+enum { TOUCHES = 4 };                       /* at most; a longword is two */
 struct outcome {
     uint32_t number, place, group, states;  /* number 0: done; group 0: not of a left-out code */
     int form;                               /* of the instruction at PC, or -1 */
+    uint32_t touches;                       /* in the order made; none of a refused step */
+    struct touch touch[TOUCHES];
 };
 
 struct ran {

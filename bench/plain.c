@@ -2,6 +2,12 @@
 
 #define ALWAYS static inline __attribute__((always_inline))
 
+/* Compiled twice: plain_step.c takes the step, which lists its accesses; here are the rest, without a list, so that a run does no more than
+   the library's must. */
+#ifndef LISTED
+#define LISTED 0
+#endif
+
 enum { CF = 1, VF = 2, ZF = 4, NF = 8, HF = 32 };
 
 /* The port area, by its length, and what an access in it takes beyond 2 states. */
@@ -15,6 +21,7 @@ struct machine {
     struct ports ports;
     uint32_t more;                          /* states beyond those of on-chip memory, of this step */
     uint32_t number, place, group;
+    uint32_t count, list[H8_STEP_ANSWER - H8_ACCESSES];     /* of this step, where it is listed */
 };
 
 /* Registers by digit. */
@@ -64,13 +71,24 @@ ALWAYS uint32_t more_at(const struct ports *k, uint32_t a, int bits)
 {
     return a - k->base >= k->n ? 0 : bits == 8 ? k->byte : k->word;
 }
+/* An access is made. */
+ALWAYS void made(struct machine *m, uint32_t a, int bits, uint32_t write)
+{
+    m->more += more_at(&m->ports, a, bits);
+    if (LISTED) {
+        uint32_t *entry = m->list + H8_ACCESS * m->count++;
+        entry[H8_ADDRESS] = a;
+        entry[H8_BYTES] = bits == 8 ? 1 : 2;
+        entry[H8_WRITE] = write;
+    }
+}
 ALWAYS int load(struct machine *m, uint32_t ea, int bits, uint32_t *x)
 {
     uint32_t a = ea & (bits == 8 ? 0xFFFFFF : 0xFFFFFE), b = (a + 2) & 0xFFFFFF;
     const uint8_t *p = seen(m, a), *q;
     if (!p)
         return refuse(m, 5, a);
-    m->more += more_at(&m->ports, a, bits);
+    made(m, a, bits, 0);
     if (bits == 8)
         return *x = p[0], 1;
     *x = (uint32_t)p[0] << 8 | p[1];
@@ -79,7 +97,7 @@ ALWAYS int load(struct machine *m, uint32_t ea, int bits, uint32_t *x)
     q = seen(m, b);
     if (!q)
         return refuse(m, 5, b);
-    m->more += more_at(&m->ports, b, bits);
+    made(m, b, bits, 0);
     *x = *x << 16 | (uint32_t)q[0] << 8 | q[1];
     return 1;
 }
@@ -91,12 +109,12 @@ ALWAYS int save(struct machine *m, uint32_t ea, int bits, uint32_t x)
     if (bits == 32 && b - m->base >= m->ram_n)
         return refuse(m, 6, b);
     uint8_t *p = m->ram + (a - m->base);
-    m->more += more_at(&m->ports, a, bits);
+    made(m, a, bits, 1);
     if (bits == 8)
         return p[0] = (uint8_t)x, 1;
     if (bits == 32) {
         uint8_t *q = m->ram + (b - m->base);
-        m->more += more_at(&m->ports, b, bits);
+        made(m, b, bits, 1);
         q[0] = (uint8_t)(x >> 8);
         q[1] = (uint8_t)x;
         x >>= 16;
@@ -593,6 +611,8 @@ ALWAYS int step(struct machine *m)
     uint32_t b0, b1, pc = m->pc + 2, x;
     int s;
     m->more = 0;
+    if (LISTED)
+        m->count = 0;
     if (m->pc >= m->rom_n)
         return refuse(m, 2, m->pc);
     b0 = m->rom[m->pc];
@@ -771,12 +791,13 @@ static void given_back(const struct machine *m, uint32_t *regs)
     regs[9] = m->cc;
 }
 
+#if LISTED
 uint32_t plain_step(const uint32_t *board, size_t board_n, const uint8_t *rom, size_t rom_n, uint8_t *ram, size_t ram_n,
                     uint32_t *regs, size_t regs_n, uint32_t *answer, size_t answer_n)
 {
     struct machine m = {0};
     int s = 0;
-    if (answer_n < 4)
+    if (answer_n < H8_STEP_ANSWER)
         return 13;
     if (regs_n < 10)
         refuse(&m, 13, 10);
@@ -787,9 +808,12 @@ uint32_t plain_step(const uint32_t *board, size_t board_n, const uint8_t *rom, s
     answer[1] = m.place;
     answer[2] = m.group;
     answer[3] = (uint32_t)s;
+    answer[H8_COUNT] = s ? m.count : 0;
+    for (uint32_t i = 0; i < H8_STEP_ANSWER - H8_ACCESSES; i++)
+        answer[H8_ACCESSES + i] = i < H8_ACCESS * answer[H8_COUNT] ? m.list[i] : 0;
     return m.number;
 }
-
+#else
 uint32_t plain_run(const uint32_t *board, size_t board_n, const uint8_t *rom, size_t rom_n, uint8_t *ram, size_t ram_n,
                    uint32_t *regs, size_t regs_n, uint32_t stop, uint32_t budget, uint64_t *answer, size_t answer_n)
 {
@@ -1129,3 +1153,4 @@ uint32_t plain_way(const uint32_t *board, size_t board_n, const uint8_t *rom, si
         return told(answer, 0, 0, figure_of(table, n, l.target) > figure_of(table, n, l.next) ? l.target : l.next);
     return told(answer, 0, 0, l.kind == JUMPS ? l.target : l.next);
 }
+#endif

@@ -57,13 +57,13 @@ static uint64_t runs(run_function *f, uint32_t pc, uint32_t stop, uint64_t steps
 
 static uint64_t steps_alone(step_function *f, uint32_t pc, uint64_t steps)
 {
-    uint32_t regs[10] = {0}, answer[4];
+    uint32_t regs[10] = {0}, answer[H8_STEP_ANSWER];
     sum = 0;
     memset(ram, 0, sizeof ram);
     regs[H8_PC] = pc;
     for (uint64_t i = 0; i < steps; i++) {
-        f(board, H8_BOARD, rom, rom_n, ram, RAM_N, regs, 10, answer, 4);
-        sum = sum * 31 + answer[3] + regs[8];
+        f(board, H8_BOARD, rom, rom_n, ram, RAM_N, regs, 10, answer, H8_STEP_ANSWER);
+        sum = sum * 31 + answer[3] + answer[H8_COUNT] + regs[8];
     }
     return steps;
 }
@@ -91,7 +91,7 @@ static void put(uint8_t *at, uint32_t x, int bytes)
 
 static void record(void)
 {
-    uint32_t regs[10] = {0}, answer[4], states = 0;
+    uint32_t regs[10] = {0}, answer[H8_STEP_ANSWER], states = 0;
     memset(ram, 0, sizeof ram);
     regs[H8_PC] = 0x200;
     recording[0] = 1;
@@ -100,7 +100,7 @@ static void record(void)
         put(r + 2, regs[H8_PC], 4);
         put(r + 6, regs[H8_CONDITION], 1);
         put(r + 7, states, 4);
-        plain_step(board, H8_BOARD, rom, rom_n, ram, RAM_N, regs, 10, answer, 4);
+        plain_step(board, H8_BOARD, rom, rom_n, ram, RAM_N, regs, 10, answer, H8_STEP_ANSWER);
         states += answer[3];
     }
     recorded = tmpfile();

@@ -226,7 +226,7 @@ static uint32_t spoil_place(const struct bits *b, uint32_t got, uint8_t *ram, si
     if (FAULT == 45 && got == 6)                                                    /* a refused step has gone on */
         b->regs[H8_PC] += 4;
     if (FAULT == 46 && !gives && b->address < 8 && got == 0)                        /* a reader refused in read-only memory */
-        return b->answer[0] = 6, b->answer[1] = b->address, b->answer[3] = 0, memcpy(b->regs, b->was, 40), 6;
+        return memset(b->answer, 0, 4 * H8_STEP_ANSWER), b->answer[1] = b->address, memcpy(b->regs, b->was, 40), b->answer[0] = 6;
     if (FAULT == 47 && gives && got == 0 && b->address & 1 && b->cell) {            /* the address is made even */
         uint8_t now = *b->cell;
         *b->cell = b->cell_was;
@@ -250,7 +250,7 @@ static uint32_t bit_step(const uint32_t *board, size_t board_n, const uint8_t *r
         b.cell = b.f[H8_FORM] == H8_SPOT_REG || b.address - base >= ram_n ? NULL : ram + (b.address - base);
         b.cell_was = b.cell ? *b.cell : 0;
     }
-    uint32_t got = plain_step(board, board_n, rom, rom_n, ram, ram_n, regs, 10, answer, 4);
+    uint32_t got = plain_step(board, board_n, rom, rom_n, ram, ram_n, regs, 10, answer, H8_STEP_ANSWER);
     if (!known || got == 1)
         return got;
     if (got == 0)
@@ -307,8 +307,9 @@ static uint32_t one_step(const uint32_t *board, size_t board_n, const uint8_t *r
 static uint32_t left_step(const uint32_t *board, size_t board_n, const uint8_t *rom, size_t rom_n, uint8_t *ram, size_t ram_n,
                           uint32_t *regs, size_t regs_n, uint32_t *answer, size_t answer_n)
 {
-    uint32_t was = answer_n >= 4 ? answer[2] : 0, got = plain_step(board, board_n, rom, rom_n, ram, ram_n, regs, regs_n, answer, answer_n);
-    if (answer_n < 4)
+    uint32_t was = answer_n >= H8_STEP_ANSWER ? answer[2] : 0;
+    uint32_t got = plain_step(board, board_n, rom, rom_n, ram, ram_n, regs, regs_n, answer, answer_n);
+    if (answer_n < H8_STEP_ANSWER)
         return got;
     uint32_t group = answer[2];
     if (got)
@@ -430,19 +431,100 @@ static void reckon_again(const uint32_t *board, const uint8_t *rom, uint32_t n, 
     }
 }
 
+/* WHAT A STEP TOUCHED, with the faults of it. */
+static uint32_t *entry_of(uint32_t *answer, uint32_t i) { return answer + H8_ACCESSES + H8_ACCESS * i; }
+
+static void set_entry(uint32_t *answer, uint32_t i, uint32_t address, uint32_t bytes, uint32_t write)
+{
+    uint32_t *e = entry_of(answer, i);
+    e[H8_ADDRESS] = address;
+    e[H8_BYTES] = bytes;
+    e[H8_WRITE] = write;
+}
+
+/* Entry i is left out. */
+static void drop_entry(uint32_t *answer, uint32_t i)
+{
+    memmove(entry_of(answer, i), entry_of(answer, i + 1), 4 * H8_ACCESS * (3 - i));
+    set_entry(answer, 3, 0, 0, 0);
+    answer[H8_COUNT]--;
+}
+
+/* Of a completed step: f is the instruction, `was` the registers before. */
+static void spoil_list(const uint32_t *f, const uint32_t *was, uint32_t *answer)
+{
+    uint32_t n = answer[H8_COUNT], *first = entry_of(answer, 0), *second = entry_of(answer, 1), swap[2 * H8_ACCESS];
+    int moves = f[H8_KIND] == H8_MOVE, wide = moves && f[H8_WIDTH] != H8_BYTE, by_er = moves && f[H8_FORM] == H8_AT;
+    (void)swap, (void)second, (void)wide, (void)by_er;
+    if (FAULT == 79 && moves && f[H8_WIDTH] == H8_LONG)                             /* a longword as one entry */
+        drop_entry(answer, 1), first[H8_BYTES] = 4;
+    if (FAULT == 80 && f[H8_KIND] == H8_GIVE && n == 2)                             /* BSET listed once, as a write */
+        drop_entry(answer, 0);
+    if (FAULT == 81 && f[H8_KIND] == H8_JSR && n == 4) {                            /* JSR's writes first */
+        memcpy(swap, first, sizeof swap);
+        memmove(first, entry_of(answer, 2), sizeof swap);
+        memcpy(entry_of(answer, 2), swap, sizeof swap);
+    }
+    if (FAULT == 83 && wide && by_er)                                               /* an odd word address */
+        first[H8_ADDRESS] |= was[f[H8_OTHER]] & 1;
+    if (FAULT == 84 && moves && f[H8_FORM] == H8_STEP && f[H8_WHICH] == H8_STORE)   /* @-ER, not lowered */
+        first[H8_ADDRESS] = was[f[H8_OTHER]] & (f[H8_WIDTH] ? 0xFFFFFE : 0xFFFFFF);
+    if (FAULT == 85 && n == 2 && second[H8_ADDRESS] == 0 && first[H8_ADDRESS] == 0xFFFFFE)      /* not modulo 2^24 */
+        second[H8_ADDRESS] = 0x1000000;
+    if (FAULT == 86 && f[H8_KIND] == H8_RTS)                                        /* RTS has no list, as if its words were fetched */
+        drop_entry(answer, 1), drop_entry(answer, 0);
+    if (FAULT == 87 && f[H8_KIND] == H8_RTS)                                        /* reads told as writes */
+        first[H8_WRITE] = second[H8_WRITE] = 1;
+    if (FAULT == 88 && f[H8_KIND] == H8_BSR)                                        /* a push with its lower word first */
+        first[H8_ADDRESS] ^= second[H8_ADDRESS], second[H8_ADDRESS] ^= first[H8_ADDRESS], first[H8_ADDRESS] ^= second[H8_ADDRESS];
+    if (FAULT == 91 && n < 4)                                                       /* the code's own place is listed too */
+        set_entry(answer, n, was[H8_PC], 2, 0), answer[H8_COUNT]++;
+    if (FAULT == 92 && n && answer[3] > f[H8_STATES])                               /* the states leave a port's last entry out */
+        answer[3]--;
+    if (FAULT == 93 && f[H8_KIND] == H8_TAKE && n)                                  /* a bit's byte told as a word */
+        first[H8_BYTES] = 2;
+}
+
+static uint32_t listed_step(const uint32_t *board, size_t board_n, const uint8_t *rom, size_t rom_n, uint8_t *ram, size_t ram_n,
+                            uint32_t *regs, size_t regs_n, uint32_t *answer, size_t answer_n)
+{
+    uint32_t was[10] = {0}, full[H8_STEP_ANSWER], kept[H8_STEP_ANSWER] = {0};
+    struct decoded d;
+    if (answer_n < (FAULT == 90 ? 4 : H8_STEP_ANSWER))                              /* 90: an answer of four numbers is enough */
+        return 13;
+    if (regs_n >= 10)
+        memcpy(was, regs, sizeof was);
+    memcpy(kept, answer, 4 * (answer_n < H8_STEP_ANSWER ? answer_n : H8_STEP_ANSWER));
+    uint32_t got = plain_step(board, board_n, rom, rom_n, ram, ram_n, regs, regs_n, full, H8_STEP_ANSWER);
+    start();
+    int known = got != 1 && got != 13 && was[8] < rom_n && decode(rom + was[8], rom_n - was[8], &d) == 0;
+    if (known && got == 0)
+        spoil_list(d.fields, was, full);
+    if (FAULT == 82 && known && got == 6 && d.fields[H8_KIND] == H8_GIVE)           /* a list after a refusal */
+        set_entry(full, 0, full[1], 1, 0), full[H8_COUNT] = 1;
+    if (FAULT == 89)                                                                /* entries that are not used stay */
+        memcpy(entry_of(full, full[H8_COUNT]), entry_of(kept, full[H8_COUNT]), 4 * H8_ACCESS * (4 - full[H8_COUNT]));
+    if (FAULT == 94 && answer_n > H8_STEP_ANSWER)                                   /* an eighteenth number is written */
+        answer[H8_STEP_ANSWER] = 0;
+    memcpy(answer, full, 4 * (answer_n < H8_STEP_ANSWER ? answer_n : H8_STEP_ANSWER));
+    return got;
+}
+
 uint32_t h8_step(const uint32_t *board, size_t board_n, const uint8_t *rom, size_t rom_n, uint8_t *ram, size_t ram_n,
                  uint32_t *regs, size_t regs_n, uint32_t *answer, size_t answer_n)
 {
+    if (FAULT >= 79 && FAULT <= 94)
+        return listed_step(board, board_n, rom, rom_n, ram, ram_n, regs, regs_n, answer, answer_n);
     if (FAULT >= 63)
         return port_step(board, board_n, rom, rom_n, ram, ram_n, regs, regs_n, answer, answer_n);
     if (FAULT >= 49)
         return left_step(board, board_n, rom, rom_n, ram, ram_n, regs, regs_n, answer, answer_n);
-    if (FAULT >= 28 && regs_n >= 10 && answer_n >= 4)
+    if (FAULT >= 28 && regs_n >= 10 && answer_n >= H8_STEP_ANSWER)
         return bit_step(board, board_n, rom, rom_n, ram, ram_n, regs, answer);
     if ((FAULT >= 6 && FAULT <= 15) || (FAULT >= 25 && FAULT <= 27))
         return one_step(board, board_n, rom, rom_n, ram, ram_n, regs, regs_n, answer, answer_n);
-    if (FAULT == 16 && regs_n == 10 && answer_n >= 4 && rom_n == 524288)            /* the longest memory refused */
-        return answer[0] = 1, answer[1] = answer[2] = answer[3] = 0, 1;
+    if (FAULT == 16 && regs_n == 10 && answer_n >= H8_STEP_ANSWER && rom_n == 524288)           /* the longest memory refused */
+        return memset(answer, 0, 4 * H8_STEP_ANSWER), answer[0] = 1;
     if (FAULT == 17 && regs_n > 10)                                                 /* writes past the registers */
         regs[10] = 0;
     return plain_step(board, board_n, rom, rom_n, ram, ram_n, regs, regs_n, answer, answer_n);
@@ -632,13 +714,13 @@ struct going {
     size_t rom_n;
     uint8_t *ram;
     size_t ram_n;
-    uint32_t *regs, kept[H8_KEPT_MAX + 1], count, told[4];
+    uint32_t *regs, kept[H8_KEPT_MAX + 1], count, told[H8_STEP_ANSWER];
     uint64_t steps, states;
 };
 
 static uint32_t try_step(struct going *g, uint8_t *ram, uint32_t *regs)
 {
-    return plain_step(g->board, g->board_n, g->rom, g->rom_n, ram, g->ram_n, regs, 10, g->told, 4);
+    return plain_step(g->board, g->board_n, g->rom, g->rom_n, ram, g->ram_n, regs, 10, g->told, H8_STEP_ANSWER);
 }
 
 /* One step: -1, or the ending. */

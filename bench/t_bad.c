@@ -12,7 +12,7 @@ struct lent {
     uint32_t *regs;
     void *answer;
     size_t regs_n, answer_bytes, out_bytes;
-    uint8_t rom_was[ROM_N], ram_was[RAM_N], regs_was[64], answer_was[64], out_was[256];
+    uint8_t rom_was[ROM_N], ram_was[RAM_N], regs_was[64], answer_was[128], out_was[256];
 };
 
 /* Code at 0: INC.W #1,R0 and MOV.W R0,@ER1 with ER1 in working memory, so that a step or two would show. */
@@ -57,7 +57,7 @@ static void unchanged(const struct lent *l, const char *what)
 }
 
 /* Numbers of an answer, and how many more are lent at most. */
-enum { DECODE = 3, ENCODE = 4, STEP = 4, RUN = 6, FIGURE = 4, WAY = 4, MORE = 2 };
+enum { DECODE = 3, ENCODE = 4, STEP = H8_STEP_ANSWER, RUN = 6, FIGURE = 4, WAY = 4, MORE = 2 };
 
 /* The answer: number and place, the rest of what is named 0 but a run's ending, and numbers behind stay. */
 static uint64_t at(const struct lent *l, size_t i, size_t size)
@@ -167,7 +167,7 @@ static void bad_step(void)
                     refused(&l, "step with too few registers", got, 13, 10, STEP, 4);
                 else if (w->number)
                     refused(&l, w->what, got, w->number, 0, STEP, 4);
-                else if (got || at(&l, 2, 4) || at(&l, 3, 4) != 2 || l.regs[0] != 1
+                else if (got || at(&l, 2, 4) || at(&l, 3, 4) != 2 || !untouched(l.answer) || l.regs[0] != 1
                          || (regs_n > 10 && l.regs[regs_n - 1] != 0x11111111 * (uint32_t)(regs_n - 1)))
                     fail("step on longer arrays answers %u", got);
             }

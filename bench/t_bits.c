@@ -51,15 +51,14 @@ static void set_byte_register(uint32_t *regs, uint32_t digit, uint32_t x)
 static void step_alone(const struct state *s)
 {
     uint8_t *rom = lend(&rom_lender, s->rom_n), *ram = lend(&ram_lender, s->ram_n);
-    uint32_t *regs = lend(&regs_lender, 40), *answer = lend(&answer_lender, 16);
+    uint32_t *regs = lend(&regs_lender, 40), *answer = lend_step_answer();
     memcpy(rom, s->rom, s->rom_n);
     memcpy(ram, s->ram, s->ram_n);
     memcpy(regs, s->regs, 40);
-    memset(answer, 0xEE, 16);
-    uint32_t returned = h8_step(plain_board(s->base), H8_BOARD, rom, s->rom_n, ram, s->ram_n, regs, 10, answer, 4);
-    if (returned != answer[0] || answer[2] || memcmp(rom, s->rom, s->rom_n) || !guards_stand(&rom_lender) || !guards_stand(&ram_lender)
-        || !guards_stand(&regs_lender) || !guards_stand(&answer_lender))
-        fail("a step wrote outside what it may write, answered a group, or returned another number than it answered");
+    uint32_t returned = h8_step(plain_board(s->base), H8_BOARD, rom, s->rom_n, ram, s->ram_n, regs, 10, answer, H8_STEP_ANSWER);
+    if (returned != answer[0] || answer[2] || (returned && !untouched(answer)) || memcmp(rom, s->rom, s->rom_n) || !guards_stand(&rom_lender)
+        || !guards_stand(&ram_lender) || !guards_stand(&regs_lender) || !guards_stand(&answer_lender))
+        fail("a step wrote outside what it may write, answered a group or a refusal's accesses, or returned another number than it answered");
     count(1);
 }
 
@@ -97,6 +96,14 @@ struct trial {
     uint32_t rd, at, rn;
 };
 
+/* The list of a step: nothing of a register; the byte read, and of a form that writes the byte once more, written. */
+static int listed(const struct trial *t, const uint32_t *answer)
+{
+    uint32_t a = t->s.base + t->at, writes = forms[t->form].kind == H8_GIVE;
+    const uint32_t reads[] = {1, a, 1, 0, 0, 0, 0, 0, 0, 0, 0, 0, 0}, gives[] = {2, a, 1, 0, a, 1, 1, 0, 0, 0, 0, 0, 0};
+    return in_memory(t->form) ? !memcmp(answer + H8_COUNT, writes ? gives : reads, sizeof reads) : untouched(answer);
+}
+
 /* What the library left: everything is as it was but PC and what the truth table says. */
 static void check(const struct trial *t, uint32_t n)
 {
@@ -113,9 +120,10 @@ static void check(const struct trial *t, uint32_t n)
         set_byte_register(regs, t->rd, byte);
     regs[H8_PC] += (uint32_t)decoder_length(t->form);
     if (answer[0] || answer[1] || answer[3] != states_of(t->form) || memcmp(got, regs, sizeof regs)
-        || memcmp(ram_lender.now, ram, t->s.ram_n)) {
+        || memcmp(ram_lender.now, ram, t->s.ram_n) || !listed(t, answer)) {
         fail("%s, bit %u, differs from its truth table", forms[t->form].name, n);
         say("answer %u at %X, states %u; wanted a byte %02X and states %u", answer[0], answer[1], answer[3], byte, states_of(t->form));
+        say("%u accesses: %s", answer[H8_COUNT], list_text(answer));
         show_registers("before", t->s.regs);
         show_registers("after, library", got);
         show_registers("after, wanted", regs);

@@ -118,12 +118,12 @@ static int kept(const struct trial *t, uint32_t pc)
 
 static void step_there(struct trial *t)
 {
-    uint32_t *answer = lend(&answer_lender, 4 * (4 + MORE));
-    memset(answer, MARK, 4 * (4 + MORE));
+    uint32_t *answer = lend(&answer_lender, 4 * (H8_STEP_ANSWER + MORE));
+    memset(answer, MARK, 4 * (H8_STEP_ANSWER + MORE));
     lay_out(t, AT);
-    uint32_t got = h8_step(plain_board(0x1000), H8_BOARD, t->rom, AT + t->n, t->ram, RAM_N, t->regs, 10, answer, 4 + MORE);
-    if (got != t->number || answer[0] != t->number || answer[1] != AT || answer[2] != t->group || answer[3] || answer[4] != (uint32_t)marked
-        || answer[5] != (uint32_t)marked || !kept(t, AT))
+    uint32_t got = h8_step(plain_board(0x1000), H8_BOARD, t->rom, AT + t->n, t->ram, RAM_N, t->regs, 10, answer, H8_STEP_ANSWER + MORE);
+    if (got != t->number || answer[0] != t->number || answer[1] != AT || answer[2] != t->group || answer[3] || !untouched(answer)
+        || answer[H8_STEP_ANSWER] != (uint32_t)marked || answer[H8_STEP_ANSWER + 1] != (uint32_t)marked || !kept(t, AT))
         wrong(t, "step", answer[0], answer[1], answer[2]);
     count(1);
 }
@@ -218,7 +218,7 @@ enum { PLACES = sizeof places / sizeof *places, LISTING = (sizeof listing - 1) /
 
 struct turn {
     uint8_t rom[LISTING], ram[2];
-    uint32_t narrow[4], step[4];            /* answers that are lent to every call and never cleared */
+    uint32_t narrow[4], step[H8_STEP_ANSWER];              /* answers that are lent to every call and never cleared */
     uint64_t run[6], figure[4], way[4], table[LISTING];
 };
 
@@ -227,11 +227,11 @@ static int answered(struct turn *u, const struct place *p)
 {
     uint32_t fields[H8_FIELDS], regs[10] = {[H8_PC] = p->at}, again[10] = {[H8_PC] = p->at}, place = p->number ? p->at : 0;
     h8_decode(u->rom + p->at, LISTING - p->at, fields, H8_FIELDS, u->narrow, 3);
-    h8_step(plain_board(0x100), H8_BOARD, u->rom, LISTING, u->ram, 2, regs, 10, u->step, 4);
+    h8_step(plain_board(0x100), H8_BOARD, u->rom, LISTING, u->ram, 2, regs, 10, u->step, H8_STEP_ANSWER);
     h8_run(plain_board(0x100), H8_BOARD, u->rom, LISTING, u->ram, 2, again, 10, 0xFFFFFFFF, 1, u->run, 6);
     h8_figure(NO_PORTS, u->rom, LISTING, p->at, u->table, LISTING, u->figure, 4);
     h8_way(NO_PORTS, u->rom, LISTING, u->table, LISTING, p->at, u->way, 4);
-    const uint32_t step[4] = {p->number, place, p->group, p->states}, narrow[3] = {p->number, 0, p->group};
+    const uint32_t step[H8_STEP_ANSWER] = {p->number, place, p->group, p->states}, narrow[3] = {p->number, 0, p->group};
     const uint64_t run[6] = {p->number, place, p->group, p->number ? 0 : 1, p->states, p->number ? H8_REFUSED : H8_SPENT};
     const uint64_t figure[4] = {p->number, place, p->group, p->figure}, way[4] = {p->number, place, p->group, p->next};
     return !memcmp(u->narrow, narrow, sizeof narrow) && !memcmp(u->step, step, sizeof step) && !memcmp(u->run, run, sizeof run)

@@ -75,11 +75,11 @@ static void lend_registers(uint32_t **regs, uint32_t pc, uint32_t condition)
 
 static void limit_of_step(const struct limit *l, const uint8_t *rom, uint8_t *ram)
 {
-    uint32_t *regs, *answer = lend(&answer_lender, 16);
+    uint32_t *regs, *answer = lend_step_answer();
     lend_registers(&regs, l->pc, l->condition);
-    uint32_t got = h8_step(far_board(l->base, l->ram_n), H8_BOARD, rom, l->rom_n, ram, l->ram_n, regs, 10, answer, 4);
+    uint32_t got = h8_step(far_board(l->base, l->ram_n), H8_BOARD, rom, l->rom_n, ram, l->ram_n, regs, 10, answer, H8_STEP_ANSWER);
     uint32_t pc = l->number ? l->pc : l->pc + 2;
-    if (got != l->number || answer[0] != l->number || answer[1] != l->place || answer[2] || answer[3] != (l->number ? 0u : 2u)
+    if (got != l->number || answer[0] != l->number || answer[1] != l->place || answer[2] || answer[3] != (l->number ? 0u : 2u) || !untouched(answer)
         || regs[H8_PC] != pc || regs[7] != 0x08080808 || regs[H8_CONDITION] != l->condition)
         fail("step, %s: answers %u at %X, states %u, PC %X; wanted %u at %X", l->what, answer[0], answer[1], answer[3],
              regs[H8_PC], l->number, l->place);
@@ -119,7 +119,7 @@ static void lengths_past_32_bits(void)
 {
     size_t room = ((size_t)1 << 32) + 1048576;
     uint8_t *p = mmap(NULL, room, PROT_READ | PROT_WRITE, MAP_PRIVATE | MAP_ANONYMOUS | MAP_NORESERVE, -1, 0);
-    uint32_t *regs, *answer = lend(&answer_lender, 16);
+    uint32_t *regs, *answer = lend_step_answer();
     uint64_t *told = lend(&out_lender, 32), table[2];
     uint8_t *none = lend(&ram_lender, 0);
     if (p == MAP_FAILED)
@@ -127,7 +127,8 @@ static void lengths_past_32_bits(void)
     for (uint64_t n = (uint64_t)1 << 32; n <= ((uint64_t)1 << 32) + 4; n += 4) {
         lend_registers(&regs, 0, 0);
         const uint32_t *board = plain_board(4);
-        if (h8_step(board, H8_BOARD, p, n, none, 0, regs, 10, answer, 4) != 1 || h8_step(board, H8_BOARD, none, 0, p, n, regs, 10, answer, 4) != 1)
+        if (h8_step(board, H8_BOARD, p, n, none, 0, regs, 10, answer, H8_STEP_ANSWER) != 1
+            || h8_step(board, H8_BOARD, none, 0, p, n, regs, 10, answer, H8_STEP_ANSWER) != 1)
             fail("a length of %llX was taken for a good one", (unsigned long long)n);
         if (h8_figure(NO_PORTS, p, n, 0, table, 2, told, 4) != 1)
             fail("figure took a length of %llX for a good one", (unsigned long long)n);
@@ -407,7 +408,7 @@ static void far_step(const struct far *f)
 {
     static uint8_t model_ram[H8_RAM_MAX];
     uint8_t *rom = lend(&rom_lender, H8_ROM_MAX), *ram = lend(&ram_lender, H8_RAM_MAX);
-    uint32_t *regs, model_regs[10], *answer = lend(&answer_lender, 16);
+    uint32_t *regs, model_regs[10], *answer = lend_step_answer(), wanted[H8_STEP_ANSWER];
     memset(rom, 0x5A, H8_ROM_MAX);
     memset(ram, 0x3C, H8_RAM_MAX);
     memset(model_ram, 0x3C, H8_RAM_MAX);
@@ -417,8 +418,9 @@ static void far_step(const struct far *f)
     memcpy(model_regs, regs, 40);
     struct board b = {f->base, rom, H8_ROM_MAX, model_ram, H8_RAM_MAX, no_ports(f->base)};
     struct outcome o = model_step(&b, model_regs);
-    h8_step(plain_board(f->base), H8_BOARD, rom, H8_ROM_MAX, ram, H8_RAM_MAX, regs, 10, answer, 4);
-    if (answer[0] != f->number || answer[1] != f->place || answer[2] != o.group || answer[3] != o.states
+    step_answer(o, wanted);
+    h8_step(plain_board(f->base), H8_BOARD, rom, H8_ROM_MAX, ram, H8_RAM_MAX, regs, 10, answer, H8_STEP_ANSWER);
+    if (answer[0] != f->number || answer[1] != f->place || memcmp(answer, wanted, sizeof wanted)
         || o.number != f->number || o.place != f->place || memcmp(regs, model_regs, 40) || memcmp(ram, model_ram, H8_RAM_MAX))
         fail("longest board, %s: answers %u at %X; wanted %u at %X", f->what, answer[0], answer[1], f->number, f->place);
     count(1);

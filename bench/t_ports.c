@@ -102,11 +102,11 @@ static const struct access accesses[] = {
 static const uint32_t *step_alone(const struct state *s)
 {
     uint8_t *rom = lend(&rom_lender, s->rom_n), *ram = lend(&ram_lender, s->ram_n);
-    uint32_t *regs = lend(&regs_lender, 40), *answer = lend(&answer_lender, 16);
+    uint32_t *regs = lend(&regs_lender, 40), *answer = lend_step_answer();
     memcpy(rom, s->rom, s->rom_n);
     memcpy(ram, s->ram, s->ram_n);
     memcpy(regs, s->regs, 40);
-    h8_step(lend_board(s->base, s->area), H8_BOARD, rom, s->rom_n, ram, s->ram_n, regs, 10, answer, 4);
+    h8_step(lend_board(s->base, s->area), H8_BOARD, rom, s->rom_n, ram, s->ram_n, regs, 10, answer, H8_STEP_ANSWER);
     return answer;
 }
 
@@ -259,13 +259,12 @@ static int same(const struct lent *l)
 static void wrong_in_step(const struct wrong *w, const struct beside *b)
 {
     struct lent l = lend_all(b);
-    uint32_t *answer = lend(&answer_lender, 16), number = w->number ? 1 : b->number, place = number == 1 ? 0 : b->place;
-    memset(answer, MARK, 16);
+    uint32_t *answer = lend_step_answer(), number = w->number ? 1 : b->number, place = number == 1 ? 0 : b->place;
     const uint32_t *board = lend_board(0x1000, (struct area){w->from, w->to, w->bus});
-    uint32_t got = h8_step(board, H8_BOARD, l.rom, ROM_N, l.ram, 64, l.regs, 10, answer, 4);
+    uint32_t got = h8_step(board, H8_BOARD, l.rom, ROM_N, l.ram, 64, l.regs, 10, answer, H8_STEP_ANSWER);
     l.before[H8_PC] += number ? 0 : 2;
     if (got != number || answer[0] != number || answer[1] != place || answer[2] != (number == 15 ? 6u : 0u) || answer[3] != (number ? 0u : 2u)
-        || !same(&l))
+        || !untouched(answer) || !same(&l))
         fail("step, area %s, %s: %u at %X, states %u; wanted %u at %X", w->what, b->what, answer[0], answer[1], answer[3], number, place);
     count(1);
 }
@@ -291,9 +290,10 @@ static void wrong_in_run(const struct wrong *w, const struct beside *b, uint32_t
 static void wrong_and_short(const struct wrong *w)
 {
     struct lent l = lend_all(&besides[0]);
-    uint32_t *answer = lend(&answer_lender, 16);
-    if (h8_step(lend_board(0x1000, (struct area){w->from, w->to, w->bus}), H8_BOARD, l.rom, ROM_N, l.ram, 64, l.regs, 9, answer, 4) != 13
-        || answer[1] != 10 || !same(&l))
+    uint32_t *answer = lend_step_answer();
+    const uint32_t *board = lend_board(0x1000, (struct area){w->from, w->to, w->bus});
+    if (h8_step(board, H8_BOARD, l.rom, ROM_N, l.ram, 64, l.regs, 9, answer, H8_STEP_ANSWER) != 13 || answer[1] != 10 || !untouched(answer)
+        || !same(&l))
         fail("step, area %s, nine registers: %u at %u", w->what, answer[0], answer[1]);
     count(1);
 }
@@ -330,11 +330,11 @@ static void limit_of(const struct limit *l)
 {
     for (int k = 0; k < 2; k++) {
         uint8_t *rom = lend(&rom_lender, l->rom_n), *ram = lend(&ram_lender, l->ram_n);
-        uint32_t *regs = lend(&regs_lender, 40), *answer = lend(&answer_lender, 16);
+        uint32_t *regs = lend(&regs_lender, 40), *answer = lend_step_answer();
         memset(rom, 0, l->rom_n);
         memset(regs, 0, 40);
         const uint32_t *board = lend_board(l->base, (struct area){l->from, l->to, buses[k]});
-        uint32_t got = h8_step(board, H8_BOARD, rom, l->rom_n, ram, l->ram_n, regs, 10, answer, 4);
+        uint32_t got = h8_step(board, H8_BOARD, rom, l->rom_n, ram, l->ram_n, regs, 10, answer, H8_STEP_ANSWER);
         if (got != l->number || answer[0] != l->number || answer[1] || answer[3] != (l->number ? 0u : 2u))
             fail("%s: %u at %X, wanted %u", l->what, answer[0], answer[1], l->number);
         count(1);
@@ -428,10 +428,11 @@ static const uint32_t *lend_numbers(size_t n)
 static void boards_of(size_t n)
 {
     struct lent l = lend_all(&(struct beside){"", "6990", 0, 0, 0, 0});
-    uint32_t *told = lend(&answer_lender, 16), number = n < H8_BOARD;
+    uint32_t *told = lend_step_answer(), number = n < H8_BOARD;
     l.regs[1] = l.before[1] = 0x1010;
-    uint32_t got = h8_step(lend_numbers(n), n, l.rom, ROM_N, l.ram, 64, l.regs, 10, told, 4);
-    if (got != number || told[0] != number || told[1] || told[3] != (number ? 0u : 8u) || (number && !same(&l)) || !guards_stand(&board_lender))
+    uint32_t got = h8_step(lend_numbers(n), n, l.rom, ROM_N, l.ram, 64, l.regs, 10, told, H8_STEP_ANSWER);
+    if (got != number || told[0] != number || told[1] || told[3] != (number ? 0u : 8u) || strcmp(list_text(told), number ? "" : "W2 001010")
+        || (number && (!same(&l) || !untouched(told))) || !guards_stand(&board_lender))
         fail("step with a board of %zu numbers: %u at %X, states %u", n, told[0], told[1], told[3]);
     l = lend_all(&besides[0]);
     uint64_t *answer = lend(&answer_lender, 48), table[ROM_N];
@@ -453,9 +454,9 @@ static void boards_of(size_t n)
 static void short_and_short(size_t n)
 {
     struct lent l = lend_all(&besides[0]);
-    uint64_t *answer = lend(&answer_lender, 48), table[ROM_N];
-    memset(answer, MARK, 48);
-    uint32_t step = h8_step(lend_numbers(n), n, l.rom, ROM_N, l.ram, 64, l.regs, 10, (uint32_t *)(void *)answer, 3);
+    uint64_t *answer = lend(&answer_lender, 72), table[ROM_N];
+    memset(answer, MARK, 72);
+    uint32_t step = h8_step(lend_numbers(n), n, l.rom, ROM_N, l.ram, 64, l.regs, 10, (uint32_t *)(void *)answer, H8_STEP_ANSWER - 1);
     uint32_t run = h8_run(lend_numbers(n), n, l.rom, ROM_N, l.ram, 64, l.regs, 10, 0, 0, answer, 5);
     uint32_t figure = h8_figure(lend_numbers(n), n, l.rom, ROM_N, 0, table, ROM_N, answer, 3);
     uint32_t way = h8_way(lend_numbers(n), n, l.rom, ROM_N, table, ROM_N, 0, answer, 3);

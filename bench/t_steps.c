@@ -381,7 +381,7 @@ struct division {
 static struct division division(int form)
 {
     struct division d = {form, 8 << forms[form].width, forms[form].which == H8_SIGNED, lend(&rom_lender, (size_t)decoder_length(form)),
-                         lend(&ram_lender, 0), lend(&regs_lender, 40), lend(&answer_lender, 16)};
+                         lend(&ram_lender, 0), lend(&regs_lender, 40), lend_step_answer()};
     uint8_t code[8];
     memcpy(d.rom, code, (size_t)build(form, d.bits == 8 ? 8 : 0, 0, 1, code));
     return d;
@@ -412,7 +412,9 @@ static int divides(const struct division *d, uint32_t dividend, uint32_t divisor
     regs[1] = above | dividend;
     regs[H8_PC] = 0;
     regs[H8_CONDITION] = condition;
-    uint32_t got = h8_step(plain_board(8), H8_BOARD, d->rom, length, d->ram, 0, regs, 10, d->answer, 4);
+    uint32_t got = h8_step(plain_board(8), H8_BOARD, d->rom, length, d->ram, 0, regs, 10, d->answer, H8_STEP_ANSWER);
+    if (!untouched(d->answer))
+        return 0;
     if (!fits(d, x, y))
         return got == 14 && d->answer[1] == 0 && d->answer[2] == 0 && d->answer[3] == 0 && regs[0] == divisor && regs[1] == (above | dividend)
             && regs[H8_PC] == 0 && regs[H8_CONDITION] == condition;

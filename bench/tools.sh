@@ -36,7 +36,7 @@ fi
 [ -z "${BENCH_EMULATOR:-}" ] || emulator=$BENCH_EMULATOR    # to try the emulator on x86-64
 
 flags=(-std=c11 -D_DEFAULT_SOURCE -O2 -Wall -Wextra -Werror -static)
-bench_files=(bench t_reference t_codes t_steps t_bits t_left t_limits t_runs t_figure t_calls t_routine t_ports t_replay t_cuts t_bad asm decoder model
+bench_files=(bench t_reference t_codes t_steps t_bits t_touches t_left t_limits t_runs t_figure t_calls t_routine t_ports t_replay t_cuts t_bad asm decoder model
              paths)
 
 build() { # PROGRAM FILE... [-- MORE]: C files of this folder by name, then what else is linked

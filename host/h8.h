@@ -4,6 +4,8 @@
    nothing between calls, allocates nothing, prints nothing and calls nothing.
 
    WHAT CHANGED, the newest first. Programs that it concerns have to be compiled again with this header.
+   - h8_step says what the instruction read and wrote. Its answer has H8_STEP_ANSWER numbers, 17 in place of 4; the first four
+     are what they were. It concerns every program that calls h8_step: a shorter `answer` is refused by 13.
    - h8_figure follows calls: BSR and JSR @aa:24 count what the routine takes that they enter, where they were 9 before. New
      are the refusals 16, a ninth level of calls, and 22, a figure above 1,000,000,000. What the figure promises it now promises
      of runs by h8_routine, which is new: such a run knows where it has to return to. The bound on steps is gone. It concerns
@@ -195,10 +197,18 @@ uint32_t h8_decode(const uint8_t *bytes, size_t n, uint32_t *fields, size_t fiel
 uint32_t h8_encode(const uint32_t *fields, size_t fields_n, uint8_t *out, size_t out_n, uint32_t *answer, size_t answer_n);
 
 /* One instruction, at PC.
-   answer, 4 numbers: [number, place, group, states].
-   Looks for: 13 (answer_n below 4: nothing written), 13 (regs_n below 10: place 10), 1, 2, 4, 15 or 3, 5, 6, 7, 14.
-   0: `regs` and `ram` are as the instruction leaves them, `states` is what it took, each access at the cost of its place.
-   Else both are as they were, states 0. */
+   answer, 17 numbers: [number, place, group, states, count, then three for each of four accesses: address, bytes, write].
+   The first `count` accesses are those to data that the instruction made, in the order made; the numbers of the others are 0.
+   The address is below 2^24, and even where bytes is 2; bytes is 1 or 2; write is 0 for a read and 1 for a write. A longword
+   is two accesses, the upper word first. Fetches are not among them. So JSR @@aa:8 has two reads and then two writes, RTS two
+   reads, BSET in memory a read and then a write of the same byte, and @-ERn is at the lowered address.
+   Looks for: 13 (answer_n below 17: nothing written), 13 (regs_n below 10: place 10), 1, 2, 4, 15 or 3, 5, 6, 7, 14.
+   0: `regs` and `ram` are as the instruction leaves them; `states` is what it took: two for each word of code that it
+   fetched, its internal states, and each access of the list at the cost of its place. No other byte of `ram` has changed
+   than those that a write of the list reaches.
+   Else both are as they were, states 0 and no accesses. */
+enum h8_step_answer { H8_COUNT = 4, H8_ACCESSES = 5, H8_STEP_ANSWER = 17 };
+enum h8_access { H8_ADDRESS = 0, H8_BYTES = 1, H8_WRITE = 2, H8_ACCESS = 3 };  /* access i is at H8_ACCESSES + H8_ACCESS * i */
 uint32_t h8_step(const uint32_t *board, size_t board_n, const uint8_t *rom, size_t rom_n, uint8_t *ram, size_t ram_n,
                  uint32_t *regs, size_t regs_n, uint32_t *answer, size_t answer_n);
 

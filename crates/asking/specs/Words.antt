@@ -7,7 +7,7 @@ use lib.Dec.{eqb}
 use lib.ListN.{getD}
 use Rattle.text.specs.Lines.{ascii}
 use Rattle.asking.specs.declared.words.Kind.{Kind}
-use Rattle.asking.specs.declared.words.Kind.the-variants.{AWord, PlainOption, RamOption, PortOption, BudgetOption, StopOption, ErOption, RoutineOption, DeepOption, NoOption}
+use Rattle.asking.specs.declared.words.Kind.the-variants.{AWord, PlainOption, RamOption, PortOption, BudgetOption, StopOption, ErOption, RoutineOption, DeepOption, TraceOption, NoOption}
 use Rattle.asking.specs.declared.words.Use.{Use}
 use Rattle.asking.specs.declared.words.Use.the-variants.{ForFigure, ForWay, ForList, ForRun, ForReplay, ForHelp, NoUse}
 
@@ -30,7 +30,8 @@ kindOf s =
     (cond (sameText s (ascii "--stop")) StopOption
     (cond (sameText s (ascii "--er")) ErOption
     (cond (sameText s (ascii "--routine")) RoutineOption
-    (cond (sameText s (ascii "--deep")) DeepOption (cond (dashed s) NoOption AWord))))))))
+    (cond (sameText s (ascii "--deep")) DeepOption
+    (cond (sameText s (ascii "--trace")) TraceOption (cond (dashed s) NoOption AWord)))))))))
 
 unfoldable pub useOf : List ℕ → Use
 useOf s =

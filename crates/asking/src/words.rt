@@ -13,6 +13,7 @@ pub enum Kind {
     ErOption,
     RoutineOption,
     DeepOption,
+    TraceOption,
     NoOption,
 }
 
@@ -73,6 +74,9 @@ pub fn kind_of(s: &[u8]) -> Kind
     }
     if same(s, b"--deep") {
         return Kind::DeepOption;
+    }
+    if same(s, b"--trace") {
+        return Kind::TraceOption;
     }
     if two_dashes(s) {
         Kind::NoOption

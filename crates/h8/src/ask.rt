@@ -8,6 +8,7 @@ use asking::Use;
 pub struct Request {
     pub count: usize,
     pub plain: bool,
+    pub trace: usize,
     pub words: usize,
     pub first: usize,
     pub second: usize,
@@ -60,6 +61,7 @@ fn width(k: Kind) -> usize
         Kind::ErOption => 3,
         Kind::RoutineOption => 1,
         Kind::DeepOption => 1,
+        Kind::TraceOption => 1,
         Kind::NoOption => 1,
     }
 }
@@ -99,6 +101,7 @@ fn noted(q: Request, k: Kind, i: usize) -> Request {
         Kind::ErOption => r.er = i,
         Kind::RoutineOption => r.routine = i,
         Kind::DeepOption => r.deep = i,
+        Kind::TraceOption => r.trace = i,
         Kind::NoOption => r.unknown = i,
     }
     r
@@ -108,6 +111,7 @@ fn none(count: usize) -> Request {
     Request {
         count: count,
         plain: false,
+        trace: 0,
         words: 0,
         first: 0,
         second: 0,

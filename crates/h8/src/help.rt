@@ -10,6 +10,7 @@ pub fn show_help() {
   h8 run ROM ENTRY --ram BASE LENGTH [--budget N] [--stop ADDRESS] [--er N VALUE]...
                                  runs from ENTRY; prints registers, flags, steps, states and why it ended
   h8 run ... --routine           the same up to the return of the routine at ENTRY; a figure holds for such runs
+  h8 run ... --trace             before that a line for each step: its states, and what it read and wrote
   h8 replay ROM ENTRY RECORDING --ram BASE LENGTH [--er N VALUE]...
                                  runs from ENTRY beside a recording; says which record differs first, and in what
                                  (with - for RECORDING, beside what comes in by a pipe)

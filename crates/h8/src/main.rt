@@ -37,7 +37,7 @@ fn surplus(q: Request, u: Use) -> usize {
 
 // An option of `h8 run` alone beside another use. Ports are of no use to `h8 help` either.
 fn astray(q: Request, u: Use) -> usize {
-    let i = either(either(q.budget, q.stop), q.routine);
+    let i = either(either(q.budget, q.stop), either(q.routine, q.trace));
     match u {
         Use::ForFigure => i,
         Use::ForWay => i,
@@ -116,7 +116,7 @@ fn faulty(q: Request, u: Use) -> bool {
         q.plain,
         b"the option",
         q.unknown,
-        b"--plain, --port, --ram, --budget, --stop, --er, --routine or --deep; `h8 help` says more",
+        b"--plain, --port, --ram, --budget, --stop, --er, --routine, --trace or --deep; `h8 help` says more",
     ) {
         return true;
     }
@@ -298,32 +298,39 @@ fn with_room(q: Request, u: Use) {
     with_arrays(q, u, &mut rom, &mut table);
 }
 
-fn run_or_replay(q: Request, u: Use, rom: &[u8], ram: &mut [u8]) {
+fn run_or_replay(q: Request, u: Use, rom: &[u8], ram: &mut [u8], again: &mut [u8]) {
     if let Use::ForRun = u {
-        runs::show_run(q, rom, ram);
+        runs::show_run(q, rom, ram, again);
     } else {
         replays::show_replay(q, rom, ram);
     }
 }
 
-fn run_file(q: Request, u: Use, rom: &mut [u8], ram: &mut [u8]) {
+fn run_file(q: Request, u: Use, rom: &mut [u8], ram: &mut [u8], again: &mut [u8]) {
     let Loaded::Bytes(n) = file::load(q.plain, q.second, rom) else {
         return;
     };
     if n <= rom.len() {
-        run_or_replay(q, u, &rom[0..n], ram);
+        run_or_replay(q, u, &rom[0..n], ram, again);
     }
 }
 
-fn run_arrays(q: Request, u: Use, rom: &mut [u8; 524290], ram: &mut [u8; 65536]) {
-    run_file(q, u, rom, ram);
+fn run_arrays(
+    q: Request,
+    u: Use,
+    rom: &mut [u8; 524290],
+    ram: &mut [u8; 65536],
+    again: &mut [u8; 65536],
+) {
+    run_file(q, u, rom, ram, again);
 }
 
-// The same for a run or a replay, with the longest working memory.
+// The same for a run or a replay, with the longest working memory, and one more for the trace of a run.
 fn run_room(q: Request, u: Use) {
     let mut rom = [0u8; 524290];
     let mut ram = [0u8; 65536];
-    run_arrays(q, u, &mut rom, &mut ram);
+    let mut again = [0u8; 65536];
+    run_arrays(q, u, &mut rom, &mut ram, &mut again);
 }
 
 fn main() {

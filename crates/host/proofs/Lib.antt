@@ -1,6 +1,7 @@
 mod Told
 mod Coded
 mod Stepped
+mod Listed
 mod Figured
 mod One
 mod Carrying

@@ -1,5 +1,6 @@
 -- The same as the code finds it. Nothing to believe: `proofs/Stepped.antt` shows that it is what `Steps` says.
 use Prim.Native.Nat.{ℕ}
+use mathlib.Core.Bool.{false}
 use mathlib.Core.List.{List, [], _∷_}
 use Rattle.refusal.specs.declared.Outcome.{Outcome}
 use Rattle.refusal.specs.declared.Outcome.the-variants.{Done, Refused}
@@ -7,11 +8,15 @@ use Rattle.step.specs.Step.{stepOf}
 use Rattle.step.specs.declared.StepAnswer.{StepAnswer}
 use Rattle.run.specs.declared.RunAnswer.{RunAnswer}
 use Rattle.routine.specs.declared.RoutineAnswer.{RoutineAnswer}
+use Rattle.arith.specs.Widths.{num}
+use Rattle.timing.specs.Made.{Access}
+use Rattle.memory.specs.declared.told.Access as entry
+use Rattle.watch.specs.Watch.{listOf}
 use Rattle.layout.specs.Lent.{overwrite}
 use Rattle.layout.specs.Board.{boardOf}
 use Rattle.layout.specs.Registers.{registersOf, tenOf}
-use Rattle.host.specs.Answers.{Noted, completed, tell, refuse}
-use Rattle.host.specs.Steps.{Left, left, runAnswer}
+use Rattle.host.specs.Answers.{Noted, tell}
+use Rattle.host.specs.Steps.{Left, left, stepAnswer, runAnswer}
 use Rattle.host.specs.Routines.{routineTold}
 
 pub record Kept : Type 0 where
@@ -25,15 +30,26 @@ kept n r a = record { returned = n; regs = r; answer = a }
 abbrev pub keeping : List ℕ → Noted → Kept
 keeping regs n = kept (n .returned) regs (n .answer)
 
-unfoldable pub stepTold : Outcome → StepAnswer → List ℕ → List ℕ → Kept
-stepTold Done q regs answer = keeping (overwrite (tenOf (q .regs)) regs) (tell (completed (q .states ∷ [])) answer)
-stepTold (Refused f) q regs answer = keeping regs (refuse f answer)
+unfoldable pub stepTold : Outcome → StepAnswer → List Access → List ℕ → List ℕ → Kept
+stepTold Done q xs regs answer = keeping (overwrite (tenOf (q .regs)) regs) (tell (stepAnswer Done (q .states) xs) answer)
+stepTold (Refused f) q xs regs answer = keeping regs (tell (stepAnswer (Refused f) 0 []) answer)
 
 unfoldable pub stepLent : List ℕ → List ℕ → List ℕ → List ℕ → List ℕ → Left
 stepLent board rom ram regs answer =
     let a = stepOf (boardOf board) rom ram (registersOf regs) in
-    let k = stepTold (a .answer .outcome) (a .answer) regs answer in
+    let xs = listOf (boardOf board) rom ram (registersOf regs) in
+    let k = stepTold (a .answer .outcome) (a .answer) xs regs answer in
     left (k .returned) (a .mem) (k .regs) (k .answer)
+
+-- no access; the numbers of an access as the code has it; and thirteen numbers
+abbrev pub noEntry : entry.Access
+noEntry = record { write = false; bytes = 0; place = 0 }
+
+abbrev pub three : entry.Access → List ℕ → List ℕ
+three x more = x .place ∷ x .bytes ∷ num (x .write) ∷ more
+
+abbrev pub thirteen : ℕ → entry.Access → entry.Access → entry.Access → entry.Access → List ℕ
+thirteen n x y z t = n ∷ three x (three y (three z (three t [])))
 
 unfoldable pub runTold : RunAnswer → List ℕ → List ℕ → Kept
 runTold q regs answer = keeping (overwrite (tenOf (q .regs)) regs) (tell (runAnswer (q .why) (q .steps) (q .states)) answer)

@@ -1,5 +1,5 @@
 -- host/h8.h, h8_step and h8_run: what they return and leave in the lent arrays.
-use Prim.Native.Nat.{ℕ}
+use Prim.Native.Nat.{ℕ, zero, suc}
 use mathlib.Core.Bool.{cond}
 use mathlib.Core.List.{List, [], _∷_}
 use lib.Dec.{ltb}
@@ -9,13 +9,16 @@ use Rattle.refusal.specs.declared.Refusal.the-variants.{BadBoard, BudgetTooLarg
 use Rattle.refusal.specs.declared.Outcome.{Outcome}
 use Rattle.refusal.specs.declared.Outcome.the-variants.{Done, Refused}
 use Rattle.step.specs.Step.{After, stepOf}
+use Rattle.timing.specs.Made.{Access}
+use Rattle.watch.specs.Watch.{listOf}
 use Rattle.run.specs.Run.{Ran, runOf}
 use Rattle.run.specs.declared.Ending.{Ending}
 use Rattle.run.specs.declared.Ending.the-variants.{AtStop, Spent, Halted}
+use Rattle.layout.specs.Choices.{dirNumber}
 use Rattle.layout.specs.Lent.{overwrite}
 use Rattle.layout.specs.Board.{boardOf}
 use Rattle.layout.specs.Registers.{registersLength, registersOf, tenOf}
-use Rattle.host.specs.Answers.{Noted, completed, refusedWith, tell, refuse}
+use Rattle.host.specs.Answers.{Noted, completed, refusedWith, tell}
 
 -- what is returned, and working memory, the registers' numbers and the answer afterwards
 pub record Left : Type 0 where
@@ -32,20 +35,41 @@ leaving ram regs n = left (n .returned) ram regs (n .answer)
 
 -- ---- h8_step
 
--- a step that is done leaves working memory and registers as it says, with [0, 0, 0, states]; a refused one leaves both as they were
-unfoldable pub stepLeft : Outcome → After → List ℕ → List ℕ → List ℕ → Left
-stepLeft Done a ram regs answer =
-    leaving (a .mem) (overwrite (tenOf (a .answer .regs)) regs) (tell (completed (a .answer .states ∷ [])) answer)
-stepLeft (Refused f) a ram regs answer = leaving ram regs (refuse f answer)
+-- H8_STEP_ANSWER
+abbrev pub stepLength : ℕ
+stepLength = 17
+
+-- three numbers an access: address, bytes (1 or 2), 0 for a read and 1 for a write; 0 for those that are not there
+abbrev pub entries : ℕ → List Access → List ℕ
+entries zero xs = []
+entries (suc n) [] = 0 ∷ 0 ∷ 0 ∷ entries n []
+entries (suc n) (x ∷ xs) = x .place ∷ x .bytes ∷ dirNumber (x .dir) ∷ entries n xs
+
+-- how many, and four of them
+abbrev pub touched : List Access → List ℕ
+touched xs = length xs ∷ entries 4 xs
+
+-- [number, place, group, states, count, four accesses]
+unfoldable pub stepAnswer : Outcome → ℕ → List Access → List ℕ
+stepAnswer Done states xs = completed (states ∷ touched xs)
+stepAnswer (Refused f) states xs = refusedWith f (0 ∷ touched [])
+
+-- a step that is done leaves working memory and registers as it says; a refused one leaves both as they were
+unfoldable pub stepLeft : Outcome → After → List Access → List ℕ → List ℕ → List ℕ → Left
+stepLeft Done a xs ram regs answer =
+    leaving (a .mem) (overwrite (tenOf (a .answer .regs)) regs) (tell (stepAnswer Done (a .answer .states) xs) answer)
+stepLeft (Refused f) a xs ram regs answer = leaving ram regs (tell (stepAnswer (Refused f) 0 []) answer)
 
 -- 13 for the answer; 13 for the registers; 1 for a condition number over 255; then the step
 unfoldable pub stepCall : List ℕ → List ℕ → List ℕ → List ℕ → List ℕ → Left
 stepCall board rom ram regs answer =
     let a = stepOf (boardOf board) rom ram (registersOf regs) in
-    cond (ltb (length answer) 4) (left 13 ram regs answer)
-    (cond (ltb (length regs) registersLength) (leaving ram regs (refuse (LentTooShort registersLength) answer))
-    (cond (ltb 255 (getD regs 9 0)) (leaving ram regs (refuse BadBoard answer))
-    (stepLeft (a .answer .outcome) a ram regs answer)))
+    let xs = listOf (boardOf board) rom ram (registersOf regs) in
+    let refused : Refusal → Left = λ f. leaving ram regs (tell (stepAnswer (Refused f) 0 []) answer) in
+    cond (ltb (length answer) stepLength) (left 13 ram regs answer)
+    (cond (ltb (length regs) registersLength) (refused (LentTooShort registersLength))
+    (cond (ltb 255 (getD regs 9 0)) (refused BadBoard)
+    (stepLeft (a .answer .outcome) a xs ram regs answer)))
 
 -- ---- h8_run
 

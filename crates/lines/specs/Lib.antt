@@ -6,3 +6,4 @@ pub mod Runs
 pub mod Routines
 pub mod Calls
 pub mod Replays
+pub mod Traces

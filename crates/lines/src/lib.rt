@@ -7,6 +7,7 @@ mod ports;
 mod replays;
 mod routines;
 mod runs;
+mod traces;
 
 pub use calls::called;
 pub use calls::level;
@@ -33,3 +34,5 @@ pub use runs::Given;
 pub use runs::ran;
 pub use runs::registers;
 pub use runs::wrong;
+pub use traces::trace_heading;
+pub use traces::traced;

@@ -30,7 +30,7 @@ fn count(k: Site, d: Decoded) -> u32
     }
 }
 
-fn decoded(rom: &[u8], p: u32) -> Decoded
+pub fn decoded(rom: &[u8], p: u32) -> Decoded
     ensures { λ r. ⌜ r ≡ decodedAt (now (rom .entry)) p ⌝ }
 {
     let at = p as usize;

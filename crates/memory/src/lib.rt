@@ -13,6 +13,8 @@ ghost use Rattle.memory.specs.Access.{readByte, readWord, readLong, read
 ghost use Rattle.memory.specs.Access.{putByte, putWord, writeByte, writeWord, writeLong, writeOf, wrote};
 ghost use Rattle.memory.specs.Mirror.{Number, Found};
 
+pub mod told;
+
 // Where working memory begins, and what the board has beside its memories. The lengths are those of the slices lent beside it.
 pub struct Board {
     pub base: u32,

@@ -9,4 +9,4 @@ step-lent-spec =
     tie.close
     (tie.spec (λ c κs. search needs) (λ c κs. search needs) (λ c κs. search needs) (λ c κs. search needs) (λ c. search needs)
     (λ c. search needs) (λ c. search needs)
-    (λ c. rw (← c .before .before .before .before .before .before .before .before .before .before .before .before .before .board-in .ensures, ← c .before .before .before .before .before .before .before .before .before .before .registers-in .ensures, ← c .before .before .before .before .before .before .before .before .before .single .ensures, ← c .before .before .before .before .tell-step .ensures)))
+    (λ c. rw (← c .before .before .before .before .before .before .before .before .before .before .before .before .before .before .board-in .ensures, ← c .before .before .before .before .before .before .before .before .before .before .before .registers-in .ensures, ← c .before .before .before .before .before .before .before .before .before .before .single .ensures .0, ← c .before .before .before .before .before .before .before .before .before .before .single .ensures .1 .0, ← c .before .before .before .before .tell-step .ensures)))

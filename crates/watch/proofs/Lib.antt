@@ -1,0 +1,4 @@
+pub mod Laws
+pub mod Acts
+pub mod Honest
+pub mod Steps

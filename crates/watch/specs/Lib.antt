@@ -1,0 +1,4 @@
+pub mod Told
+pub mod Watch
+pub mod MirrorWatch
+pub mod Honest
