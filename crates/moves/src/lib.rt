@@ -14,7 +14,10 @@ ghost use Rattle.registers.specs.Condition.{withMoved};
 ghost use Rattle.codes.specs.declared.Place.the-variants.{Step, Abs24};
 ghost use Rattle.operate.specs.MirrorLent.{Does};
 ghost use Rattle.moves.specs.Moves.{bytesOf, loadOf, storeOf, pushOf, poppedOf};
-ghost use Rattle.moves.specs.MirrorMoves.{Leaves, LeavesBoth, keptOf, Restores};
+ghost use mathlib.Core.List.{[], _∷_};
+ghost use Rattle.codes.specs.declared.Dir.the-variants.{Load, Store};
+ghost use Rattle.codes.specs.Cycles.{touch, pushes};
+ghost use Rattle.moves.specs.MirrorMoves.{Leaves, LeavesBoth, keptOf, Restores, Notes};
 
 fn bytes(w: Width) -> u32
     ensures { λ n. ⌜ n ≡ bytesOf w ⌝ }
@@ -43,10 +46,12 @@ pub fn load(
     b: Board,
     rom: &[u8],
     ram: &[u8],
+    trail: &mut u64,
 ) -> Deed
-    ensures { λ e. ⌜ Leaves (λ (r : Registers). loadOf w (Abs24 a) d r b (now (rom .entry)) (now (ram .entry))) (now (er .entry)) (now (er .exit)) f e ⌝ }
+    ensures did { λ e. ⌜ Leaves (λ (r : Registers). loadOf w (Abs24 a) d r b (now (rom .entry)) (now (ram .entry))) (now (er .entry)) (now (er .exit)) f e ⌝ }
+    ensures told { λ e. ⌜ Notes (touch Load w (Abs24 a) ∷ []) (now (er .entry)) f e (now (trail .entry)) (now (trail .exit)) ⌝ }
 {
-    match memory::read(w, b, rom, ram, a) {
+    match memory::read(w, b, rom, ram, a, trail) {
         Got::Value(x) => operate::did(operate::mov(w, er, d, x, f)),
         Got::NotRead(x) => operate::refused(f, x),
     }
@@ -62,10 +67,12 @@ pub fn pop(
     b: Board,
     rom: &[u8],
     ram: &[u8],
+    trail: &mut u64,
 ) -> Deed
-    ensures { λ q. ⌜ Leaves (λ (r : Registers). loadOf w (Step e) d r b (now (rom .entry)) (now (ram .entry))) (now (er .entry)) (now (er .exit)) f q ⌝ }
+    ensures did { λ q. ⌜ Leaves (λ (r : Registers). loadOf w (Step e) d r b (now (rom .entry)) (now (ram .entry))) (now (er .entry)) (now (er .exit)) f q ⌝ }
+    ensures told { λ q. ⌜ Notes (touch Load w (Step e) ∷ []) (now (er .entry)) f q (now (trail .entry)) (now (trail .exit)) ⌝ }
 {
-    match memory::read(w, b, rom, ram, registers::get(Width::Long, er, e)) {
+    match memory::read(w, b, rom, ram, registers::get(Width::Long, er, e), trail) {
         Got::Value(x) => {
             let g = operate::raise(er, e, bytes(w), f);
             operate::did(operate::mov(w, er, d, x, g))
@@ -85,11 +92,21 @@ pub fn kept(p: Put, f: Condition, g: Condition) -> Deed
 }
 
 // MOV to the address a.
-pub fn store(w: Width, a: u32, s: u8, er: &[u32; 8], f: Condition, b: Board, ram: &mut [u8]) -> Deed
-    ensures { λ e. ⌜ LeavesBoth (λ (r : Registers). storeOf w (Abs24 a) s r b (now (ram .entry))) (now (er .entry)) (now (er .entry)) f e (now (ram .exit)) ⌝ }
+pub fn store(
+    w: Width,
+    a: u32,
+    s: u8,
+    er: &[u32; 8],
+    f: Condition,
+    b: Board,
+    ram: &mut [u8],
+    trail: &mut u64,
+) -> Deed
+    ensures did { λ e. ⌜ LeavesBoth (λ (r : Registers). storeOf w (Abs24 a) s r b (now (ram .entry))) (now (er .entry)) (now (er .entry)) f e (now (ram .exit)) ⌝ }
+    ensures told { λ e. ⌜ Notes (touch Store w (Abs24 a) ∷ []) (now (er .entry)) f e (now (trail .entry)) (now (trail .exit)) ⌝ }
 {
     let x = registers::get(w, er, s);
-    let p = memory::write(w, b, ram, a, x);
+    let p = memory::write(w, b, ram, a, x, trail);
     kept(p, f, flagged(w, x, f))
 }
 
@@ -130,25 +147,35 @@ pub fn push(
     f: Condition,
     b: Board,
     ram: &mut [u8],
+    trail: &mut u64,
 ) -> Deed
-    ensures { λ d. ⌜ LeavesBoth (λ (r : Registers). storeOf w (Step e) s r b (now (ram .entry))) (now (er .entry)) (now (er .exit)) f d (now (ram .exit)) ⌝ }
+    ensures did { λ d. ⌜ LeavesBoth (λ (r : Registers). storeOf w (Step e) s r b (now (ram .entry))) (now (er .entry)) (now (er .exit)) f d (now (ram .exit)) ⌝ }
+    ensures told { λ d. ⌜ Notes (touch Store w (Step e) ∷ []) (now (er .entry)) f d (now (trail .entry)) (now (trail .exit)) ⌝ }
 {
     let old = register(er, e);
     let g = operate::lower(er, e, bytes(w), f);
     let x = registers::get(w, er, s);
     let a = registers::get(Width::Long, er, e);
-    let p = memory::write(w, b, ram, a, x);
+    let p = memory::write(w, b, ram, a, x, trail);
     restored(p, e, old, er, f, flagged(w, x, g))
 }
 
 // BSR and JSR: the address of the next instruction.
-pub fn call(next: u32, er: &mut [u32; 8], f: Condition, b: Board, ram: &mut [u8]) -> Deed
-    ensures { λ d. ⌜ LeavesBoth (λ (r : Registers). pushOf next r b (now (ram .entry))) (now (er .entry)) (now (er .exit)) f d (now (ram .exit)) ⌝ }
+pub fn call(
+    next: u32,
+    er: &mut [u32; 8],
+    f: Condition,
+    b: Board,
+    ram: &mut [u8],
+    trail: &mut u64,
+) -> Deed
+    ensures did { λ d. ⌜ LeavesBoth (λ (r : Registers). pushOf next r b (now (ram .entry))) (now (er .entry)) (now (er .exit)) f d (now (ram .exit)) ⌝ }
+    ensures told { λ d. ⌜ Notes pushes (now (er .entry)) f d (now (trail .entry)) (now (trail .exit)) ⌝ }
 {
     let old = register(er, 7);
     let g = operate::lower(er, 7, 4, f);
     let a = registers::get(Width::Long, er, 7);
-    let p = memory::write(Width::Long, b, ram, a, next);
+    let p = memory::write(Width::Long, b, ram, a, next, trail);
     restored(p, 7, old, er, f, g)
 }
 
