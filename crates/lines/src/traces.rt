@@ -1,9 +1,6 @@
 // h8 run --trace: a step's place, text and states, and the data accesses that it made.
 ghost use mathlib.Core.Path.{_≡_};
-ghost use mathlib.Core.Bool.{cond};
 ghost use mathlib.Core.List.{[], _∷_};
-ghost use Rattle.codes.specs.declared.Dir.the-variants.{Load, Store};
-ghost use Rattle.watch.specs.Told.{entryOf};
 ghost use Rattle.watch.specs.Watch.{listIn};
 ghost use Rattle.text.specs.Lines.{none, Adds};
 ghost use Rattle.lines.specs.Traces.{wayWords, accessWords, wayPlain, accessPlain, accessText, accessesText, tracedWords, tracedPlain, steppedText, endText, tracedText, traceHeading};
@@ -14,7 +11,7 @@ use text::Line;
 use watch::Listed;
 
 fn way_words(l: Line, write: bool) -> Line
-    ensures { λ r. ⌜ Adds l (wayWords (cond write Store Load)) r ⌝ }
+    ensures { λ r. ⌜ Adds l (wayWords write) r ⌝ }
 {
     if write {
         text::bytes(l, b"  W")
@@ -24,7 +21,7 @@ fn way_words(l: Line, write: bool) -> Line
 }
 
 fn way_plain(l: Line, write: bool) -> Line
-    ensures { λ r. ⌜ Adds l (wayPlain (cond write Store Load)) r ⌝ }
+    ensures { λ r. ⌜ Adds l (wayPlain write) r ⌝ }
 {
     if write {
         text::bytes(l, b"write ")
@@ -34,7 +31,7 @@ fn way_plain(l: Line, write: bool) -> Line
 }
 
 fn access_words(l: Line, x: Access) -> Line
-    ensures { λ r. ⌜ Adds l (accessWords (entryOf x)) r ⌝ }
+    ensures { λ r. ⌜ Adds l (accessWords x) r ⌝ }
 {
     let a = way_words(l, x.write);
     let b = text::decimal(a, x.bytes as u64);
@@ -43,7 +40,7 @@ fn access_words(l: Line, x: Access) -> Line
 }
 
 fn access_plain(l: Line, x: Access) -> Line
-    ensures { λ r. ⌜ Adds l (accessPlain (entryOf x)) r ⌝ }
+    ensures { λ r. ⌜ Adds l (accessPlain x) r ⌝ }
 {
     let a = way_plain(l, x.write);
     let b = text::decimal(a, x.bytes as u64);
@@ -52,7 +49,7 @@ fn access_plain(l: Line, x: Access) -> Line
 }
 
 fn one(l: Line, x: Access, plain: bool) -> Line
-    ensures { λ r. ⌜ Adds l (accessText plain (entryOf x)) r ⌝ }
+    ensures { λ r. ⌜ Adds l (accessText plain x) r ⌝ }
 {
     if plain {
         access_plain(l, x)
@@ -63,28 +60,28 @@ fn one(l: Line, x: Access, plain: bool) -> Line
 
 // The last of them, and with one, two or three before it.
 fn last_one(l: Line, x: Access, plain: bool) -> Line
-    ensures { λ r. ⌜ Adds l (accessesText plain (entryOf x ∷ [])) r ⌝ }
+    ensures { λ r. ⌜ Adds l (accessesText plain (x ∷ [])) r ⌝ }
 {
     let a = one(l, x, plain);
     text::bytes(a, b"")
 }
 
 fn last_two(l: Line, x: Access, y: Access, plain: bool) -> Line
-    ensures { λ r. ⌜ Adds l (accessesText plain (entryOf x ∷ entryOf y ∷ [])) r ⌝ }
+    ensures { λ r. ⌜ Adds l (accessesText plain (x ∷ y ∷ [])) r ⌝ }
 {
     let a = one(l, x, plain);
     last_one(a, y, plain)
 }
 
 fn last_three(l: Line, x: Access, y: Access, z: Access, plain: bool) -> Line
-    ensures { λ r. ⌜ Adds l (accessesText plain (entryOf x ∷ entryOf y ∷ entryOf z ∷ [])) r ⌝ }
+    ensures { λ r. ⌜ Adds l (accessesText plain (x ∷ y ∷ z ∷ [])) r ⌝ }
 {
     let a = one(l, x, plain);
     last_two(a, y, z, plain)
 }
 
 fn last_four(l: Line, x: Access, y: Access, z: Access, t: Access, plain: bool) -> Line
-    ensures { λ r. ⌜ Adds l (accessesText plain (entryOf x ∷ entryOf y ∷ entryOf z ∷ entryOf t ∷ [])) r ⌝ }
+    ensures { λ r. ⌜ Adds l (accessesText plain (x ∷ y ∷ z ∷ t ∷ [])) r ⌝ }
 {
     let a = one(l, x, plain);
     last_three(a, y, z, t, plain)
