@@ -22,7 +22,14 @@ ghost use Rattle.transfer.specs.MirrorTransfer.{Anywhere, AnyCode, Calle
 pub mod moving;
 
 // RTS: PC is what lies at ER7, and ER7 is raised.
-fn returned(er: &mut [u32; 8], f: Condition, b: Board, rom: &[u8], ram: &[u8], trail: &mut u64) -> Turn
+fn returned(
+    er: &mut [u32; 8],
+    f: Condition,
+    b: Board,
+    rom: &[u8],
+    ram: &[u8],
+    trail: &mut u64,
+) -> Turn
     ensures did { λ t. ⌜ Anywhere Rts (now (er .entry)) (now (er .exit)) f b (now (rom .entry)) (now (ram .entry)) t ⌝ }
     ensures told { λ t. ⌜ Trails (touchesOf Rts) (now (er .entry)) f (now (trail .entry)) (now (trail .exit)) t ⌝ }
 {
@@ -75,7 +82,15 @@ pub fn single(
 }
 
 // JMP @@aa:8.
-fn jump_vector(a: u8, er: &[u32; 8], f: Condition, b: Board, rom: &[u8], ram: &[u8], trail: &mut u64) -> Turn
+fn jump_vector(
+    a: u8,
+    er: &[u32; 8],
+    f: Condition,
+    b: Board,
+    rom: &[u8],
+    ram: &[u8],
+    trail: &mut u64,
+) -> Turn
     ensures did { λ t. ⌜ Anywhere (Jmp (Vector a)) (now (er .entry)) (now (er .entry)) f b (now (rom .entry)) (now (ram .entry)) t ⌝ }
     ensures told { λ t. ⌜ Trails (touchesOf (Jmp (Vector a))) (now (er .entry)) f (now (trail .entry)) (now (trail .exit)) t ⌝ }
 {
@@ -107,7 +122,15 @@ fn called(
 }
 
 // BSR.
-fn call_near(d: u8, pc: u32, er: &mut [u32; 8], f: Condition, b: Board, ram: &mut [u8], trail: &mut u64) -> Turn
+fn call_near(
+    d: u8,
+    pc: u32,
+    er: &mut [u32; 8],
+    f: Condition,
+    b: Board,
+    ram: &mut [u8],
+    trail: &mut u64,
+) -> Turn
     ensures did { λ t. ⌜ AnyCode (Code (Bsr (Near d)) 2) (now (er .entry)) (now (er .exit)) pc f b (now (ram .entry)) (now (ram .exit)) t ⌝ }
     ensures told { λ t. ⌜ Trails pushes (now (er .entry)) f (now (trail .entry)) (now (trail .exit)) t ⌝ }
 {
@@ -116,7 +139,15 @@ fn call_near(d: u8, pc: u32, er: &mut [u32; 8], f: Condition, b: Board, ram: &mu
     called(next, to, 4, er, f, b, ram, trail)
 }
 
-fn call_far(d: u16, pc: u32, er: &mut [u32; 8], f: Condition, b: Board, ram: &mut [u8], trail: &mut u64) -> Turn
+fn call_far(
+    d: u16,
+    pc: u32,
+    er: &mut [u32; 8],
+    f: Condition,
+    b: Board,
+    ram: &mut [u8],
+    trail: &mut u64,
+) -> Turn
     ensures did { λ t. ⌜ AnyCode (Code (Bsr (Far d)) 4) (now (er .entry)) (now (er .exit)) pc f b (now (ram .entry)) (now (ram .exit)) t ⌝ }
     ensures told { λ t. ⌜ Trails pushes (now (er .entry)) f (now (trail .entry)) (now (trail .exit)) t ⌝ }
 {
@@ -180,7 +211,16 @@ pub fn jump(
             ram,
             trail,
         ),
-        6 => called(flow::next(pc, 4), (x % 16777216) as u32, 6, er, f, b, ram, trail),
+        6 => called(
+            flow::next(pc, 4),
+            (x % 16777216) as u32,
+            6,
+            er,
+            f,
+            b,
+            ram,
+            trail,
+        ),
         7 => call_vector((x % 256) as u8, pc, er, f, b, rom, ram, trail),
         8 => turns::done(
             multiply::mulxu(Half::Eight, er, (x / 16 % 16) as u8, (x % 16) as u8, f),

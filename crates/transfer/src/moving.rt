@@ -155,7 +155,17 @@ fn transfer_byte(
     let n = a.states as u32 + timing::access(b.site, Width::Byte, a.address);
     if k < 8 {
         turns::ended(
-            moves::load(Width::Byte, a.address, a.register, er, f, b, rom, &ram[..], trail),
+            moves::load(
+                Width::Byte,
+                a.address,
+                a.register,
+                er,
+                f,
+                b,
+                rom,
+                &ram[..],
+                trail,
+            ),
             a.next,
             n,
         )
@@ -186,7 +196,16 @@ pub fn byte(
     if k % 8 == 1 {
         step_byte(k, x, pc, er, f, b, rom, ram, trail)
     } else {
-        transfer_byte(k, aimed(k % 8, 16, x, pc, 2, 2, er), er, f, b, rom, ram, trail)
+        transfer_byte(
+            k,
+            aimed(k % 8, 16, x, pc, 2, 2, er),
+            er,
+            f,
+            b,
+            rom,
+            ram,
+            trail,
+        )
     }
 }
 
@@ -234,7 +253,17 @@ fn transfer_word(
     let n = a.states as u32 + timing::access(b.site, Width::Word, a.address);
     if k < 8 {
         turns::ended(
-            moves::load(Width::Word, a.address, a.register, er, f, b, rom, &ram[..], trail),
+            moves::load(
+                Width::Word,
+                a.address,
+                a.register,
+                er,
+                f,
+                b,
+                rom,
+                &ram[..],
+                trail,
+            ),
             a.next,
             n,
         )
@@ -265,7 +294,16 @@ pub fn word(
     if k % 8 == 1 {
         step_word(k, x, pc, er, f, b, rom, ram, trail)
     } else {
-        transfer_word(k, aimed(k % 8, 16, x, pc, 2, 2, er), er, f, b, rom, ram, trail)
+        transfer_word(
+            k,
+            aimed(k % 8, 16, x, pc, 2, 2, er),
+            er,
+            f,
+            b,
+            rom,
+            ram,
+            trail,
+        )
     }
 }
 
@@ -313,7 +351,17 @@ fn transfer_long(
     let n = a.states as u32 + timing::access(b.site, Width::Long, a.address);
     if k < 8 {
         turns::ended(
-            moves::load(Width::Long, a.address, a.register, er, f, b, rom, &ram[..], trail),
+            moves::load(
+                Width::Long,
+                a.address,
+                a.register,
+                er,
+                f,
+                b,
+                rom,
+                &ram[..],
+                trail,
+            ),
             a.next,
             n,
         )
@@ -344,6 +392,15 @@ pub fn long(
     if k % 8 == 1 {
         step_long(k, x, pc, er, f, b, rom, ram, trail)
     } else {
-        transfer_long(k, aimed(k % 8, 8, x, pc, 4, 4, er), er, f, b, rom, ram, trail)
+        transfer_long(
+            k,
+            aimed(k % 8, 8, x, pc, 4, 4, er),
+            er,
+            f,
+            b,
+            rom,
+            ram,
+            trail,
+        )
     }
 }

@@ -456,70 +456,50 @@ module _ (b : Board) (rom ram ram′ : List ℕ) where
     gave-alike (Value x) give index a l = rw (put-alike Byte a _ l)
     gave-alike (NotRead f) give index a l = refl
 
-    effect-alike : (next : ℕ) (i : Instruction) → Same (madeOf r i) → effectOf next r b rom ram′ i .effect ≡ effectOf next r b rom ram i .effect
-    unfolding effectOf transferOf loadOf storeOf pushOf takesOf takesAt givesOf givesAt addressOf stepOver
-    effect-alike next Nop h = refl
-    effect-alike next (Stc d) h = refl
-    effect-alike next (LdcReg s) h = refl
-    effect-alike next (Ccr change v) h = refl
-    effect-alike next (Alu op w s d) h = refl
-    effect-alike next (IncDec way w by d) h = refl
-    effect-alike next (AddsSubs way by e) h = refl
-    effect-alike next (Decimal way d) h = refl
-    effect-alike next (Shift turn w d) h = refl
-    effect-alike next (Unary single w d) h = refl
-    effect-alike next (Multiply sign h s d) l = refl
-    effect-alike next (Divide sign h s d) l = refl
-    effect-alike next (Takes take index (InPart d)) h = refl
-    effect-alike next (Takes take index (AtEr e)) h = rw (read-alike Byte _ (alike-left _ _ h))
-    effect-alike next (Takes take index (AtAbs a)) h = rw (read-alike Byte _ (alike-left _ _ h))
-    effect-alike next (Gives give index (InPart d)) h = refl
-    effect-alike next (Gives give index (AtEr e)) h = rw (read-alike Byte _ (alike-left _ _ h)) (gave-alike _ give index _ (h .long))
-    effect-alike next (Gives give index (AtAbs a)) h = rw (read-alike Byte _ (alike-left _ _ h)) (gave-alike _ give index _ (h .long))
-    effect-alike next (Move Load w p d) h = rw (read-alike w _ (alike-left _ _ h))
-    effect-alike next (Move Store w p d) h = rw (put-alike w _ _ (h .long))
-    effect-alike next (Bcc c reach) h = refl
-    effect-alike next (Jmp target) h = refl
-    effect-alike next (Bsr reach) h = rw (put-alike Long _ _ (h .long))
-    effect-alike next (Jsr target) h = rw (put-alike Long _ _ (h .long))
-    effect-alike next Rts h = refl
-
-    follow-alike : (next : ℕ) (i : Instruction) → Same (madeOf r i) → followOf r b rom ram′ (goesOf i) next ≡ followOf r b rom ram (goesOf i) next
-    unfolding followOf aimOf addressOf
-    follow-alike next Nop h = refl
-    follow-alike next (Stc d) h = refl
-    follow-alike next (LdcReg s) h = refl
-    follow-alike next (Ccr change v) h = refl
-    follow-alike next (Alu op w s d) h = refl
-    follow-alike next (IncDec way w by d) h = refl
-    follow-alike next (AddsSubs way by e) h = refl
-    follow-alike next (Decimal way d) h = refl
-    follow-alike next (Shift turn w d) h = refl
-    follow-alike next (Unary single w d) h = refl
-    follow-alike next (Multiply sign h s d) l = refl
-    follow-alike next (Divide sign h s d) l = refl
-    follow-alike next (Takes take index spot) h = refl
-    follow-alike next (Gives give index spot) h = refl
-    follow-alike next (Move dir w p d) h = refl
-    follow-alike next (Bcc c reach) h = refl
-    follow-alike next (Jmp (ByReg e)) h = refl
-    follow-alike next (Jmp (Direct a)) h = refl
-    follow-alike next (Jmp (Vector a)) h = read-alike Long a (alike-left _ _ h)
-    follow-alike next (Bsr reach) h = refl
-    follow-alike next (Jsr (ByReg e)) h = refl
-    follow-alike next (Jsr (Direct a)) h = refl
-    follow-alike next (Jsr (Vector a)) h = read-alike Long a (alike-left _ _ h)
-    follow-alike next Rts h = read-alike Long _ (alike-left _ _ h)
-
     carry-alike : (g : Got) (i : Instruction) (next : ℕ) → effectOf next r b rom ram′ i .effect ≡ effectOf next r b rom ram i .effect
         → carryOf g i next r b rom ram′ .answer ≡ carryOf g i next r b rom ram .answer
     unfolding carryOf
     carry-alike (Value p) i next e = ap (λ (x : Effect). finishOf (x .outcome) r (x .regs) p (statesAt (b .site) r i)) e
     carry-alike (NotRead f) i next e = refl
 
-    obey-alike : (i : Instruction) (n : ℕ) → Same (madeOf r i) → obeyOf i n r b rom ram′ .answer ≡ obeyOf i n r b rom ram .answer
+    -- by where it goes, and by what it does
+    alike : (i : Instruction) (n : ℕ) → followOf r b rom ram′ (goesOf i) (nextOf (r .pc) n) ≡ followOf r b rom ram (goesOf i) (nextOf (r .pc) n)
+        → effectOf (nextOf (r .pc) n) r b rom ram′ i .effect ≡ effectOf (nextOf (r .pc) n) r b rom ram i .effect
+        → obeyOf i n r b rom ram′ .answer ≡ obeyOf i n r b rom ram .answer
     unfolding obeyOf
-    obey-alike i n h = rw (follow-alike (nextOf (r .pc) n) i h) (carry-alike _ i (nextOf (r .pc) n) (effect-alike (nextOf (r .pc) n) i h))
+    alike i n f e = rw f (carry-alike _ i (nextOf (r .pc) n) e)
+
+    obey-alike : (i : Instruction) (n : ℕ) → Same (madeOf r i) → obeyOf i n r b rom ram′ .answer ≡ obeyOf i n r b rom ram .answer
+    unfolding followOf aimOf effectOf transferOf loadOf storeOf pushOf takesOf takesAt givesOf givesAt addressOf stepOver
+    obey-alike Nop n h = alike Nop n refl refl
+    obey-alike (Stc d) n h = alike (Stc d) n refl refl
+    obey-alike (LdcReg s) n h = alike (LdcReg s) n refl refl
+    obey-alike (Ccr change v) n h = alike (Ccr change v) n refl refl
+    obey-alike (Alu op w s d) n h = alike (Alu op w s d) n refl refl
+    obey-alike (IncDec way w by d) n h = alike (IncDec way w by d) n refl refl
+    obey-alike (AddsSubs way by e) n h = alike (AddsSubs way by e) n refl refl
+    obey-alike (Decimal way d) n h = alike (Decimal way d) n refl refl
+    obey-alike (Shift turn w d) n h = alike (Shift turn w d) n refl refl
+    obey-alike (Unary single w d) n h = alike (Unary single w d) n refl refl
+    obey-alike (Multiply sign k s d) n h = alike (Multiply sign k s d) n refl refl
+    obey-alike (Divide sign k s d) n h = alike (Divide sign k s d) n refl refl
+    obey-alike (Takes take index (InPart d)) n h = alike (Takes take index (InPart d)) n refl refl
+    obey-alike (Takes take index (AtEr e)) n h = alike (Takes take index (AtEr e)) n refl (rw (read-alike Byte _ (alike-left _ _ h)))
+    obey-alike (Takes take index (AtAbs a)) n h = alike (Takes take index (AtAbs a)) n refl (rw (read-alike Byte _ (alike-left _ _ h)))
+    obey-alike (Gives give index (InPart d)) n h = alike (Gives give index (InPart d)) n refl refl
+    obey-alike (Gives give index (AtEr e)) n h = alike (Gives give index (AtEr e)) n refl (rw (read-alike Byte _ (alike-left _ _ h)) (gave-alike _ give index _ (h .long)))
+    obey-alike (Gives give index (AtAbs a)) n h = alike (Gives give index (AtAbs a)) n refl (rw (read-alike Byte _ (alike-left _ _ h)) (gave-alike _ give index _ (h .long)))
+    obey-alike (Move Load w p d) n h = alike (Move Load w p d) n refl (rw (read-alike w _ (alike-left _ _ h)))
+    obey-alike (Move Store w p d) n h = alike (Move Store w p d) n refl (rw (put-alike w _ _ (h .long)))
+    obey-alike (Bcc c reach) n h = alike (Bcc c reach) n refl refl
+    obey-alike (Jmp (ByReg e)) n h = alike (Jmp (ByReg e)) n refl refl
+    obey-alike (Jmp (Direct a)) n h = alike (Jmp (Direct a)) n refl refl
+    obey-alike (Jmp (Vector a)) n h = alike (Jmp (Vector a)) n (read-alike Long _ (alike-left _ _ h)) refl
+    obey-alike (Bsr reach) n h = alike (Bsr reach) n refl (rw (put-alike Long _ _ (h .long)))
+    obey-alike (Jsr (ByReg e)) n h = alike (Jsr (ByReg e)) n refl (rw (put-alike Long _ _ (h .long)))
+    obey-alike (Jsr (Direct a)) n h = alike (Jsr (Direct a)) n refl (rw (put-alike Long _ _ (h .long)))
+    obey-alike (Jsr (Vector a)) n h = alike (Jsr (Vector a)) n (read-alike Long _ (alike-left _ _ h)) (rw (put-alike Long _ _ (h .long)))
+    obey-alike Rts n h = alike Rts n (read-alike Long _ (alike-left _ _ h)) refl
 
     -- Where a step is done, another working memory that is alike where a read of its list reaches gives the same answer: registers, states, and that it is done.
     -- So the list names no read too few.

@@ -10,13 +10,12 @@ use borrow.Author.Needs.{needs}
 use Rattle.refusal.specs.declared.Outcome.the-variants.{Done}
 use Rattle.registers.specs.Lent.{lent}
 use Rattle.memory.specs.Board.{goodBoard}
-use Rattle.entry.specs.Entry.{byKind}
+use Rattle.entry.specs.Entry.{regShort, regLong, immByte, immWord, immLong, branchNear, branchFar, takenIn, givenIn, byKind}
 use Rattle.step.specs.Step.{After, after, answered, actOf, goodPc, fetchOf}
 use Rattle.turns.specs.MirrorTurn.{toldIn}
 use Rattle.turns.proofs.Laws.{refused-stays, no-turn}
-use Rattle.arith.specs.declared.Width.the-variants.{Byte, Word}
 use Rattle.run.specs.MirrorTrail.{trailAt, Last}
-use Rattle.run.proofs.Quiet.{quiet-short, quiet-long, quiet-imm-byte, quiet-imm-word, quiet-imm-long, quiet-counted, quiet-turned, quiet-turned-long, quiet-near, quiet-far, quiet-taken, quiet-given}
+use Rattle.run.proofs.Quiet.{quiet-counted, quiet-turned, quiet-turned-long}
 use Rattle.run.specs.MirrorKept.{Keeps}
 use Rattle.run.specs.MirrorAlong.{alongFrom}
 use Rattle.run.proofs.Turns.{no-kind, outside, by-kind, by-trail, step-is, as-done, not-stopped, not-halted, turn-done, turn-refused, same-registers, same-memory, pc-fits, stops, spent, strayed, length-kept, still-good, goes-on, refused}
@@ -100,19 +99,19 @@ trailed : (c : Met) → c .match .t .outcome ≡ Done → (
     let a = c .before .before .before .before .before .before .before .before .before .before .before .before .before .before .before .before .before .args in
     let s = c .before .before .before .before .before .before .before .before .before .before .loop in
     c .match .trail ≡ trailAt (a .rom .now) (lent (s .er) (s .pc) (s .f)))
-unfolding byKind
+unfolding regShort regLong immByte immWord immLong branchNear branchFar takenIn givenIn byKind
 trailed c o =
     let a = c .before .before .before .before .before .before .before .before .before .before .before .before .before .before .before .before .before .args in
     let s = c .before .before .before .before .before .before .before .before .before .before .loop in
     let e = c .before .before .before .look in
     let r = lent (s .er) (s .pc) (s .f) in
     let by = by-trail r (a .b) (a .rom .now) (s .ram) (e .result) (c .before .before .before .before .before .if4 .left) (e .ensures .0) in
-    ⊎-elim (λ w. w .5 ∙ by 0 (w .0 .keys1) _ (quiet-short r (e .result % 16) (e .result / 512) Byte))
-    (⊎-elim (λ w. w .5 ∙ by 1 (w .0 .keys2) _ (quiet-short r (e .result % 16) (e .result / 512) Word))
-    (⊎-elim (λ w. w .5 ∙ by 2 (w .0 .keys3) _ (quiet-long r (e .result % 16) (e .result / 512)))
-    (⊎-elim (λ w. w .5 ∙ by 3 (w .0 .keys4) _ (quiet-imm-byte r (e .result % 16) (e .result / 512)))
-    (⊎-elim (λ w. w .5 ∙ by 4 (w .0 .keys5) _ (quiet-imm-word r (e .result % 16) (e .result / 512)))
-    (⊎-elim (λ w. w .5 ∙ by 5 (w .0 .keys6) _ (quiet-imm-long r (e .result % 16) (e .result / 512)))
+    ⊎-elim (λ w. w .5 ∙ by 0 (w .0 .keys1) _ refl)
+    (⊎-elim (λ w. w .5 ∙ by 1 (w .0 .keys2) _ refl)
+    (⊎-elim (λ w. w .5 ∙ by 2 (w .0 .keys3) _ refl)
+    (⊎-elim (λ w. w .5 ∙ by 3 (w .0 .keys4) _ refl)
+    (⊎-elim (λ w. w .5 ∙ by 4 (w .0 .keys5) _ refl)
+    (⊎-elim (λ w. w .5 ∙ by 5 (w .0 .keys6) _ refl)
     (⊎-elim (λ w. w .5 ∙ by 6 (w .0 .keys7) _ (quiet-counted r (e .result % 16) (e .result / 512)))
     (⊎-elim (λ w. w .5 ∙ by 7 (w .0 .keys8) _ (quiet-turned r (e .result % 16) (e .result / 512)))
     (⊎-elim (λ w. w .5 ∙ by 8 (w .0 .keys9) _ (quiet-turned-long r (e .result % 16) (e .result / 512)))
@@ -120,11 +119,11 @@ trailed c o =
     (⊎-elim (λ w. w .9 ∙ by 10 (w .0 .keys11) _ (w .4 .ensures .1 (s .pc) (as-done (w .10) o)))
     (⊎-elim (λ w. w .9 ∙ by 11 (w .0 .keys12) _ (w .4 .ensures .1 (s .pc) (as-done (w .10) o)))
     (⊎-elim (λ w. w .9 ∙ by 12 (w .0 .keys13) _ (w .4 .ensures .1 (s .pc) (as-done (w .10) o)))
-    (⊎-elim (λ w. w .4 ∙ by 13 (w .0 .keys14) _ (quiet-near r (e .result % 16) (e .result / 512)))
-    (⊎-elim (λ w. w .4 ∙ by 14 (w .0 .keys15) _ (quiet-far r (e .result % 16) (e .result / 512)))
+    (⊎-elim (λ w. w .4 ∙ by 13 (w .0 .keys14) _ refl)
+    (⊎-elim (λ w. w .4 ∙ by 14 (w .0 .keys15) _ refl)
     (⊎-elim (λ w. w .9 ∙ by 15 (w .0 .keys16) _ (w .4 .ensures .1 (s .pc) (as-done (w .10) o)))
-    (⊎-elim (λ w. w .5 ∙ by 16 (w .0 .keys17) _ (quiet-taken r (e .result % 16) (e .result / 512)))
-    (⊎-elim (λ w. w .5 ∙ by 17 (w .0 .keys18) _ (quiet-given r (e .result % 16) (e .result / 512)))
+    (⊎-elim (λ w. w .5 ∙ by 16 (w .0 .keys17) _ refl)
+    (⊎-elim (λ w. w .5 ∙ by 17 (w .0 .keys18) _ refl)
     (⊎-elim (λ w. w .7 ∙ by 18 (w .0 .keys19) _ (w .4 .ensures .1 (s .pc) (as-done (w .8) o)))
     (⊎-elim (λ w. w .9 ∙ by 19 (w .0 .keys20) _ (w .4 .ensures .1 (s .pc) (as-done (w .10) o)))
     (λ w. absurd (no-turn _ _ _ (w .1 .ensures) (as-done (w .5) o))))))))))))))))))))))
@@ -161,13 +160,13 @@ repeat-spec =
       m .before .before .before .look .ensures .1,
       λ z. absurd (omega (arith, z)),
       λ z.
-      record {
-        begun = r;
-        held = s .ram;
-        led = ap (λ (x : After). x .answer .regs) (step-is (a .b) (a .rom .now) (a .stop) (a .records .now) (s .ram) r (s .steps) (s .states) (s .inv .5) n (m .match .ram) e);
-        only = λ h. s .inv .7 (omega (arith, h));
-        tells = trailed m (c .before .before .before .enum-told .given .1);
-      },
+          record {
+            begun = r;
+            held = s .ram;
+            led = ap (λ (x : After). x .answer .regs) (step-is (a .b) (a .rom .now) (a .stop) (a .records .now) (s .ram) r (s .steps) (s .states) (s .inv .5) n (m .match .ram) e);
+            only = λ h. s .inv .7 (omega (arith, h));
+            tells = trailed m (c .before .before .before .enum-told .given .1);
+          },
     ))
     (λ c. search needs) (λ c. search needs)
     (λ c.
@@ -202,6 +201,8 @@ repeat-spec =
     let s = m .before .before .before .before .before .before .before .before .before .before .loop in
     let r = lent (s .er) (s .pc) (s .f) in
     let x = c .before .o .given .1 in
-    let e = turn-refused (s .er) (m .match .er) (s .pc) (s .f) (m .match .t) (a .b) (a .rom .now) (s .ram) (m .match .ram) (turned m) _ x in
-    (rw (same-registers (s .er) (m .match .er) (s .pc) (s .f) (m .match .t) (a .b) (a .rom .now) (s .ram) (m .match .ram) (turned m) _ x)
-    (sym (refused (a .b) (a .rom .now) (a .stop) (a .records .now) (s .ram) r (s .steps) (s .states) (s .inv .5) _ _ e (a .budget) (m .before .before .before .before .before .before .before .before .before .if1 .left) (s .inv .2) (m .before .before .before .before .before .before .before .before .if2 .left) (sym (m .before .before .before .before .before .before .before .strays .ensures) ∙ m .before .before .before .before .before .before .if3 .left) _ refl) ∙ s .inv .4), λ h n. absurd (not-halted h))))
+    let e = turn-refused (s .er) (m .match .er) (s .pc) (s .f) (m .match .t) (a .b) (a .rom .now) (s .ram) (m .match .ram) (turned m) _ x in (
+      rw (same-registers (s .er) (m .match .er) (s .pc) (s .f) (m .match .t) (a .b) (a .rom .now) (s .ram) (m .match .ram) (turned m) _ x)
+          (sym (refused (a .b) (a .rom .now) (a .stop) (a .records .now) (s .ram) r (s .steps) (s .states) (s .inv .5) _ _ e (a .budget) (m .before .before .before .before .before .before .before .before .before .if1 .left) (s .inv .2) (m .before .before .before .before .before .before .before .before .if2 .left) (sym (m .before .before .before .before .before .before .before .strays .ensures) ∙ m .before .before .before .before .before .before .if3 .left) _ refl) ∙ s .inv .4),
+      λ h n. absurd (not-halted h),
+    )))

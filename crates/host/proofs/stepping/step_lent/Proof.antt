@@ -15,7 +15,8 @@ step-lent-spec =
     let r = c .before .before .before .before .before .before .before .before .before .before .before .registers-in .ensures in
     let w = c .before .before .before .before .before .before .before .before .before .before .single in
     let k = c .before .before .before .before .tell-step .ensures in (
-      rw (← b, ← r, ← w .ensures .0, ← w .ensures .1 .0, ← k), (
+      rw (← b, ← r, ← w .ensures .0, ← w .ensures .1 .0, ← k),
+      (
         step-summed (w .result) _ _ k _ _ (rw (b, r) at (w .ensures .1 .1 .0)),
         step-spares (w .result) _ _ k _ _ _ _ (rw (b, r) at (w .ensures .0)) (rw b at (w .ensures .1 .1 .1)),
       ),
