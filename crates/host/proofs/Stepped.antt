@@ -59,9 +59,9 @@ list-back s answer (Quartet x y z t) = rw (way-back (x .write), way-back (y .wri
 
 -- ---- the sum, and what was spared
 
-pub not-returned : {n : ℕ} {new answer : List ℕ} (f : Refusal) → noted n new ≡ tell (stepAnswer (Refused f) 0 []) answer → n ≡ 0 → ⊥
+pub not-returned : {n : ℕ} {new : List ℕ} (answer : List ℕ) (f : Refusal) → noted n new ≡ tell (stepAnswer (Refused f) 0 []) answer → n ≡ 0 → ⊥
 unfolding stepAnswer tell
-not-returned {n} f e z = let x : n ≡ numberOf f = ap (λ (m : Noted). m .returned) e in omega (arith, numbered f)
+not-returned {n} answer f e z = let x : n ≡ numberOf f = ap (λ (m : Noted). m .returned) e in omega (arith, numbered f)
 
 module _ (w : Watched) (regs answer : List ℕ) {n : ℕ} {regs′ answer′ : List ℕ} (e : kept n regs′ answer′ ≡ stepTold (w .answer .outcome) (w .answer) (listIn (w .list)) regs answer) where
   done-told : w .answer .outcome ≡ Done → kept n regs′ answer′ ≡ keeping (overwrite (tenOf (w .answer .regs)) regs) (tell (stepAnswer Done (w .answer .states) (listIn (w .list))) answer)
@@ -78,7 +78,9 @@ module _ (w : Watched) (regs answer : List ℕ) {n : ℕ} {regs′ answer′ : L
 
   number-told : (f : Refusal) → w .answer .outcome ≡ Refused f → n ≡ numberOf f
   unfolding stepTold stepAnswer tell
-  number-told f d = ap (λ (k : Kept). k .returned) (e ∙ rw d)
+  number-told f d =
+      let h : kept n regs′ answer′ ≡ keeping regs (tell (stepAnswer (Refused f) 0 []) answer) = e ∙ rw d in
+      ap (λ (k : Kept). k .returned) h
 
   pub step-summed : (board rom : List ℕ) → Summed (boardOf board) rom (registersOf regs) w → StepSummed board rom regs n answer′
   step-summed board rom s i m z d = by (w .answer .outcome) refl

@@ -14,8 +14,8 @@ unfolding stepCall
 h8-step-spec =
     tie.close
     (tie.spec (λ c. (rw (lt-ltb _ _ (c .if1 .taken)), (λ i m z d. absurd (omega (arith, z)), λ k s. refl))) (λ c. search needs) (λ c κs. search needs) (λ c. search needs)
-    (λ c. (rw (le-ltb _ _ (c .before .before .before .before .before .if1 .left), lt-ltb _ _ (c .before .before .before .before .if2 .taken)) (leave (c .before .before .refused-step .ensures) refl refl), (λ i m z d. absurd (not-returned _ (c .before .before .refused-step .ensures) z), λ k s. refl)))
+    (λ c. (rw (le-ltb _ _ (c .before .before .before .before .before .if1 .left), lt-ltb _ _ (c .before .before .before .before .if2 .taken)) (leave (c .before .before .refused-step .ensures) refl refl), (λ i m z d. absurd (not-returned _ _ (c .before .before .refused-step .ensures) z), λ k s. refl)))
     (λ c κs. search needs) (λ c κs. search needs) (λ c. search needs) (λ c. search needs)
-    (λ c. (rw (le-ltb _ _ (c .before .before .before .before .before .before .before .before .if1 .left), le-ltb _ _ (c .before .before .before .before .before .before .before .if2 .left), ← c .before .before .before .before .before .number-at .ensures, lt-ltb _ _ (c .before .before .before .before .if3 .taken)) (leave (c .before .before .refused-step2 .ensures) refl refl), (λ i m z d. absurd (not-returned _ (c .before .before .refused-step2 .ensures) z), λ k s. refl)))
+    (λ c. (rw (le-ltb _ _ (c .before .before .before .before .before .before .before .before .if1 .left), le-ltb _ _ (c .before .before .before .before .before .before .before .if2 .left), ← c .before .before .before .before .before .number-at .ensures, lt-ltb _ _ (c .before .before .before .before .if3 .taken)) (leave (c .before .before .refused-step2 .ensures) refl refl), (λ i m z d. absurd (not-returned _ _ (c .before .before .refused-step2 .ensures) z), λ k s. refl)))
     (λ c κs. search needs) (λ c. search needs) (λ c. search needs) (λ c. search needs)
     (λ c. let s = c .before .before .before .before .before .before .before .before .before .before .before .before .before .before .before .before .before .before .before .before .args in (rw (le-ltb _ _ (c .before .before .before .before .before .before .before .before .before .before .before .before .before .before .if1 .left), le-ltb _ _ (c .before .before .before .before .before .before .before .before .before .before .before .before .before .if2 .left), ← c .before .before .before .before .before .before .before .before .before .before .before .number-at .ensures, le-ltb _ _ (c .before .before .before .before .before .before .before .before .before .before .if3 .left)) (c .before .before .before .before .before .before .step-lent .ensures .0 ∙ stepped-is (now (s .board)) (now (s .rom)) (now (s .ram)) (now (s .regs)) (now (s .answer))), c .before .before .before .before .before .before .step-lent .ensures .1)))
