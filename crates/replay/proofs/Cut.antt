@@ -6,6 +6,7 @@ use Prim.Native.Nat.{ℕ}
 use Rattle.refusal.specs.declared.Refusal.the-variants.{ReplayEnded}
 use Rattle.registers.specs.declared.Registers.{Registers}
 use Rattle.memory.specs.declared.Board.{Board}
+use Rattle.replay.specs.declared.Report.{Report}
 use Rattle.replay.specs.declared.Report.the-variants.{Halted}
 use Rattle.replay.specs.declared.Stage.{Stage}
 use Rattle.replay.specs.declared.Stage.the-variants.{Version, Records, Told, Closed}
@@ -60,12 +61,17 @@ module _ (b : Board) (rom : List ℕ) where
   unfolding replayOf
   cuts ram r ds = ap (λ (s : Moment). closed s) (in-turn (moment (begun b rom ram r) ram) ds)
 
+-- an end after a difference or a refusal repeats its report
+pub end-repeats : (k : Standing) (t : Report) → k .stage ≡ Told t → endedOf k .report ≡ t
+unfolding endedOf endOf
+end-repeats k t e = rw e
+
 -- a second end is 20 and changes nothing
 pub second-end : (k : Standing) → endedOf (endedOf k .replay) ≡ ended (endedOf k .replay) (Halted ReplayEnded)
 unfolding endedOf endOf
 second-end k = refl
 
--- an end after a difference or a refusal repeats its report, and a delivery after it is 20 and changes nothing
+-- a delivery after the end is 20 and changes nothing
 module _ (b : Board) (rom : List ℕ) (s : Moment) (d : List ℕ) where
   pub after-end : deliverOf b rom (moment (endedOf (s .replay) .replay) (s .mem)) d ≡ arrived (delivered (endedOf (s .replay) .replay) (Final (Halted ReplayEnded))) (s .mem)
   unfolding endedOf stageArrived
