@@ -1,4 +1,5 @@
 pub mod Replay
 pub mod Followed
+pub mod Reported
 pub mod Cuts
 pub mod MirrorReplay
