@@ -12,7 +12,7 @@ use Rattle.replay.specs.declared.Stage.{Stage}
 use Rattle.replay.specs.declared.Stage.the-variants.{Version, Records, Told, Closed}
 use Rattle.replay.specs.declared.Standing.{Standing}
 use Rattle.replay.specs.Replay.{Moment, moment, stageTaken, byteTaken, fed}
-use Rattle.replay.specs.MirrorReplay.{overOf}
+use Rattle.replay.specs.Cuts.{overOf}
 
 pub no-true : {A : Type 0} → false ≡ true → A
 no-true h = absurd (let z : _≡_ {A = ℕ} 0 1 = cc in omega arith)

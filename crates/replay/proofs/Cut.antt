@@ -13,8 +13,7 @@ use Rattle.replay.specs.declared.Stage.the-variants.{Version, Records, T
 use Rattle.replay.specs.declared.Standing.{Standing}
 use Rattle.replay.specs.declared.Said.the-variants.{Final}
 use Rattle.replay.specs.Replay.{Moment, moment, staged, ended, endOf, endedOf, closed, fed, begun, replayOf}
-use Rattle.replay.specs.Cuts.{Arrived, arrived, delivered, took, stageArrived, deliverOf, deliveries, joined}
-use Rattle.replay.specs.MirrorReplay.{overOf}
+use Rattle.replay.specs.Cuts.{overOf, Arrived, arrived, delivered, took, stageArrived, deliverOf, deliveries, joined}
 use Rattle.replay.proofs.Bytes.{no-true, told-stays}
 
 module _ (b : Board) (rom : List ℕ) where
@@ -52,7 +51,7 @@ module _ (b : Board) (rom : List ℕ) where
   each : (s : Moment) (d : List ℕ) → left (deliverOf b rom s d) ≡ fed b rom s d
   each s d = by-stage (s .replay .stage) s d (λ h. told-stays b rom s d h)
 
-  in-turn : (s : Moment) (ds : List (List ℕ)) → deliveries b rom s ds ≡ fed b rom s (joined ds)
+  pub in-turn : (s : Moment) (ds : List (List ℕ)) → deliveries b rom s ds ≡ fed b rom s (joined ds)
   unfolding deliveries joined fed
   in-turn s [] = refl
   in-turn s (d ∷ ds) = ap (λ (t : Moment). deliveries b rom t ds) (each s d) ∙ (in-turn (fed b rom s d) ds ∙ sym (fed-both s d (joined ds)))

@@ -1,6 +1,6 @@
 -- Recordings that arrive in cuts (document 02, W8): deliveries are taken in turn, the replay carried in a value and the memories untouched between.
 use Prim.Native.Nat.{ℕ}
-use mathlib.Core.Bool.{cond}
+use mathlib.Core.Bool.{Bool, true, false}
 use mathlib.Core.List.{List, [], _∷_, _++_}
 use Rattle.refusal.specs.declared.Refusal.the-variants.{ReplayEnded}
 use Rattle.memory.specs.declared.Board.{Board}
@@ -19,6 +19,20 @@ saidOf Version = More
 saidOf (Records p) = More
 saidOf (Told t) = Final t
 saidOf Closed = Final (Halted ReplayEnded)
+
+-- a replay is over and takes no more bytes
+abbrev pub overOf : Stage → Bool
+overOf Version = false
+overOf (Records p) = false
+overOf (Told t) = true
+overOf Closed = true
+
+-- its end was declared
+abbrev pub shutOf : Stage → Bool
+shutOf Version = false
+shutOf (Records p) = false
+shutOf (Told t) = false
+shutOf Closed = true
 
 -- a delivery's answer, and working memory after it
 pub record Arrived : Type 0 where

@@ -11,12 +11,6 @@ use Rattle.replay.specs.Replay.{Moment, moment, nothing, standing}
 use Rattle.replay.specs.declared.Stage.{Stage}
 use Rattle.replay.specs.declared.Stage.the-variants.{Version, Records, Told, Closed}
 
-abbrev pub overOf : Stage → Bool
-overOf Version = false
-overOf (Records p) = false
-overOf (Told t) = true
-overOf Closed = true
-
 -- nothing is read of the next record
 abbrev pub freshOf : Stage → Bool
 freshOf Version = false

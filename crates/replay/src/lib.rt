@@ -5,8 +5,8 @@ use refusal::Refusal;
 use registers::Registers;
 ghost use mathlib.Core.Path.{_≡_};
 ghost use Prim.Native.Nat.{_*_, _%_, _^_, _≤_, _<_};
-ghost use Rattle.replay.specs.Cuts.{saidOf, arrived, deliverOf};
-ghost use Rattle.replay.specs.MirrorReplay.{overOf, freshOf, aheadOf, missingOf, passedOf};
+ghost use Rattle.replay.specs.Cuts.{saidOf, overOf, shutOf, arrived, deliverOf};
+ghost use Rattle.replay.specs.MirrorReplay.{freshOf, aheadOf, missingOf, passedOf};
 ghost use Rattle.replay.specs.Replay.{fieldNumber, byteTaken, firstOf, nothing, longer, grown, begins, ended, endOf, endedOf, moment, staged, taken, compared, held, stageTaken, fed, begun, replayed, replayOf};
 
 // What is read of the next record: how many of its bytes, and its numbers so far.
@@ -247,13 +247,25 @@ fn byte_taken(k: Standing, x: u8, b: Board, rom: &[u8], ram: &mut [u8]) -> Stand
 }
 
 // Whether a replay takes no more bytes.
-fn over(g: Stage) -> bool
+pub fn over(g: Stage) -> bool
     ensures { λ t. ⌜ t ≡ overOf g ⌝ }
 {
     match g {
         Stage::Version => false,
         Stage::Records(_) => false,
         Stage::Told(_) => true,
+        Stage::Closed => true,
+    }
+}
+
+// Whether the end was declared.
+pub fn shut(g: Stage) -> bool
+    ensures { λ t. ⌜ t ≡ shutOf g ⌝ }
+{
+    match g {
+        Stage::Version => false,
+        Stage::Records(_) => false,
+        Stage::Told(_) => false,
         Stage::Closed => true,
     }
 }
