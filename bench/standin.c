@@ -1025,7 +1025,8 @@ static uint32_t too_late(const struct standing *s, uint32_t *replay, uint64_t *a
     told.place = FAULT == 168 ? record_begins(s) : 0;                               /* 168: its place is a record's */
     if (FAULT == 170)                                                               /* nothing is counted */
         told.steps = 0, told.states = 0;
-    write_numbers(s, replay);
+    if (FAULT == 196)                                                               /* its numbers are written as they were read */
+        write_numbers(s, replay);
     if (FAULT == 167)                                                               /* it closes the replay */
         replay[13] = CLOSED;
     return tell_standing(&told, answer);

@@ -267,7 +267,8 @@ uint32_t h8_replay(const uint32_t *board, size_t board_n, const uint8_t *rom, si
    of 19 over 2 as 2, of 20 that is no field as H8_FIELD_STATES, of 21 that is no refusal's as 1; condition bytes by their
    remainder by 256, of refusal 15 the place by 2^24 and the group by 2^8, and 1, 11, 12, 17 and 20 have place 0. All else is
    taken as it stands: 10 and 14 are counted on from their remainder by 2^24, the length is looked at when 14 becomes 2 and the
-   record compared when it becomes 11, and 12 is said from 1,000,000 records on. What was read so is written back so, with 20 too.
+   record compared when it becomes 11, and 12 is said from 1,000,000 records on. What was read so is written back so; but 20
+   leaves all 24 numbers as they are, whatever they are.
 
    answer, 7 numbers, as h8_replay's; the report is H8_MORE, and 0 is returned, while all agreed so far and more may come. The
    other reports come as soon as the byte that decides them; bytes after it, in the same delivery, are passed over. 19 comes from
@@ -279,8 +280,8 @@ uint32_t h8_replay(const uint32_t *board, size_t board_n, const uint8_t *rom, si
    h8_replay_take looks for: 13 (answer_n below 7), 13 (replay_n below 24: place 24), 20 (a difference or a refusal was told, or
    the end declared; for an empty delivery too: nothing changes); then as h8_replay in the file. A wrong board is 1 where a step
    is to be taken on it.
-   h8_replay_end looks for: 13 (answer_n below 7), 13 (replay_n below 24: place 24), 20 (the end was declared before); then 19,
-   or it repeats the difference or the refusal, or all agreed. */
+   h8_replay_end looks for: 13 (answer_n below 7), 13 (replay_n below 24: place 24), 20 (the end was declared before: nothing
+   changes); then 19, or it repeats the difference or the refusal, or all agreed. */
 enum h8_replay_number {
     H8_REPLAY_RECORDS = 10, H8_REPLAY_STATES = 11, H8_REPLAY_STAGE = 13, H8_REPLAY_READ = 14, H8_REPLAY_TOLD = 19, H8_REPLAY = 24
 };

@@ -1,17 +1,20 @@
 -- What is written of a replay is read back as it was. Assumes nothing.
-use Prim.Native.Nat.{ℕ, _+_, _*_, _/_, _%_, _^_, _<_}
+use Prim.Native.Nat.{ℕ, _+_, _*_, _/_, _%_, _^_, _≤_, _<_}
 use mathlib.Core.Path.{_≡_, refl, sym, _∙_, ap}
 use mathlib.Core.List.{List, [], _∷_, _++_}
 use native.Mathlib.Nat.{mod-eq-of-lt}
 use native.Mathlib.Omega.{arith}
-use lib.ListN.{length, getD}
+use lib.ListN.{length, getD, drop}
+use lib.Seq.{sets}
 use Rattle.refusal.specs.Refusals.{numberOf, placeOf, groupOf}
 use Rattle.refusal.specs.declared.Refusal.{Refusal}
 use Rattle.refusal.specs.declared.Refusal.the-variants.{BadBoard, FetchOutside, UnknownCode, CutShort, ReadOutside, WriteOutside, NoAdjustRow, BadEntry, NotFollowed, NotUpward, NotInstruction, BudgetTooLarge, LentTooShort, DivideFails, LeftOut, TooDeep, BadVersion, BadLength, Unfinished, ReplayEnded, TooLong}
 use Rattle.registers.specs.Condition.{conditionOf, byteOf}
 use Rattle.registers.specs.declared.Registers.{Registers}
 use Rattle.registers.proofs.Bytes.{condition-back, byte-small}
+use Rattle.layout.specs.Lent.{overwrite}
 use Rattle.layout.specs.Registers.{registersOf, tenOf}
+use Rattle.layout.proofs.Stored.{stored}
 use Rattle.replay.specs.Replay.{standing}
 use Rattle.replay.specs.declared.Part.{Part}
 use Rattle.replay.specs.declared.Field.{Field}
@@ -21,7 +24,7 @@ use Rattle.replay.specs.declared.Report.the-variants.{Agreed, Differs, Halted}
 use Rattle.replay.specs.declared.Stage.{Stage}
 use Rattle.replay.specs.declared.Stage.the-variants.{Version, Records, Told, Closed}
 use Rattle.replay.specs.declared.Standing.{Standing}
-use Rattle.carried.specs.Carried.{fieldAt, refusalAt, reportAt, stageAt, partOf, reportOf, standingOf, reportNumbers, stageNumbers, numbersOf}
+use Rattle.carried.specs.Carried.{replayLength, fieldAt, refusalAt, reportAt, stageAt, partOf, reportOf, standingOf, reportNumbers, stageNumbers, numbersOf}
 
 -- how many numbers
 report-length : (t : Report) → length (reportNumbers t) ≡ 5
@@ -114,7 +117,7 @@ eight (a ∷ b ∷ c ∷ d ∷ e ∷ f ∷ g ∷ []) q = absurd (omega arith)
 eight (a ∷ b ∷ c ∷ d ∷ e ∷ f ∷ g ∷ h ∷ []) q = refl
 eight (a ∷ b ∷ c ∷ d ∷ e ∷ f ∷ g ∷ h ∷ x ∷ l) q = absurd (omega arith)
 
-registers-back : (r : Registers) (rest : List ℕ) → length (r .er) ≡ 8 → registersOf (tenOf r ++ rest) ≡ r
+pub registers-back : (r : Registers) (rest : List ℕ) → length (r .er) ≡ 8 → registersOf (tenOf r ++ rest) ≡ r
 unfolding registersOf tenOf
 registers-back r rest q = rw (mod-eq-of-lt (byte-small (r .condition)), condition-back (r .condition), eight (r .er) q)
 
@@ -152,3 +155,12 @@ back k rest h =
     (registers-back (k .regs) ((k .steps ∷ k .states / 2 ^ 32 ∷ k .states % 2 ^ 32 ∷ stageNumbers (k .stage)) ++ rest) (h .eight-registers))
     (omega arith)
     (stage-back (k .regs) (k .steps) (k .states / 2 ^ 32) (k .states % 2 ^ 32) rest (k .stage) (h .stage-fits))
+
+-- what was stored in an array that is long enough is read back
+pub stored-back : (k : Standing) (l after : List ℕ) → Fits k → after ≡ sets l 0 (numbersOf k) → replayLength ≤ length l → standingOf after ≡ k
+unfolding overwrite
+stored-back k l after f e n = ap standingOf (e ∙ stored (numbersOf k) l (rw (numbers-length k) n)) ∙ back k (drop (length (numbersOf k)) l) f
+
+-- two promises, the second by the first
+pub and-so : {A B : Type 0} → A → (A → B) → A × B
+and-so a f = (a, f a)

@@ -1,10 +1,11 @@
 // Where a replay stands, as numbers of a lent array (host/h8.h, "A REPLAY BETWEEN TWO CALLS"). What an array lacks reads as 0 and is not written.
 ghost use mathlib.Core.Path.{_≡_};
 ghost use mathlib.Core.List.{[], _∷_};
-ghost use Prim.Native.Nat.{_/_, _%_, _^_};
+ghost use Prim.Native.Nat.{_/_, _%_, _^_, _≤_};
+ghost use lib.ListN.{length};
 ghost use lib.Seq.{sets};
 ghost use Rattle.replay.specs.Replay.{nothing};
-ghost use Rattle.carried.specs.Carried.{fieldAt, refusalAt, reportAt, stageAt, partOf, reportOf, standingOf, reportNumbers, stageNumbers, numbersOf};
+ghost use Rattle.carried.specs.Carried.{replayLength, fieldAt, refusalAt, reportAt, stageAt, partOf, reportOf, standingOf, reportNumbers, stageNumbers, numbersOf};
 use layout::lent;
 use refusal::Refusal;
 use replay::Field;
@@ -182,7 +183,8 @@ fn put_stage(l: &mut [u32], g: Stage)
 }
 
 pub fn put_replay(l: &mut [u32], k: Standing)
-    ensures { λ _. ⌜ now (l .exit) ≡ sets (now (l .entry)) 0 (numbersOf k) ⌝ }
+    ensures stored { λ _. ⌜ now (l .exit) ≡ sets (now (l .entry)) 0 (numbersOf k) ⌝ }
+    ensures stands { λ _. ⌜ (replayLength ≤ length (now (l .entry)) → standingOf (now (l .exit)) ≡ k) ⌝ }
 {
     let r = k.regs;
     let g = k.stage;

@@ -5,4 +5,5 @@ mod Listed
 mod Figured
 mod One
 mod Carrying
+mod Chained
 mod Within

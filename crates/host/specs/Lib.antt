@@ -8,3 +8,4 @@ pub mod MirrorSteps
 pub mod Replays
 pub mod MirrorReplays
 pub mod Cuts
+pub mod Chained

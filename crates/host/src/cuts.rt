@@ -5,7 +5,7 @@ ghost use lib.ListN.{length};
 ghost use Rattle.host.specs.Answers.{noted, tell};
 ghost use Rattle.host.specs.Steps.{left};
 ghost use Rattle.host.specs.Replays.{replayAnswer};
-ghost use Rattle.host.specs.Cuts.{carrying, saidAnswer, carriedOn, startOf, beginCall, takeLeft, takeCall, endCall};
+ghost use Rattle.host.specs.Cuts.{carrying, saidAnswer, carriedOn, startOf, beginCall, BeginStands, takeOn, takeCall, TakeStands, endOn, endCall, EndStands};
 ghost use Rattle.layout.specs.Board.{boardOf};
 ghost use Rattle.carried.specs.Carried.{replayLength, standingOf};
 ghost use Rattle.replay.specs.Replay.{moment, endedOf};
@@ -32,7 +32,8 @@ fn tell_said(s: Said, steps: u32, states: u64, answer: &mut [u64]) -> u32
 // The replay is left in its numbers, and what it says in the answer.
 fn carry(k: Standing, s: Said, replay: &mut [u32], answer: &mut [u64]) -> u32
     requires { ⌜ (replayLength ≤ length (now replay)) × (7 ≤ length (now answer)) ⌝ }
-    ensures { λ n. ⌜ carrying n (now (replay .exit)) (now (answer .exit)) ≡ carriedOn k s (now (replay .entry)) (now (answer .entry)) ⌝ }
+    ensures call { λ n. ⌜ carrying n (now (replay .exit)) (now (answer .exit)) ≡ carriedOn k s (now (replay .entry)) (now (answer .entry)) ⌝ }
+    ensures stands { λ n. ⌜ standingOf (now (replay .exit)) ≡ k ⌝ }
 {
     carried::put_replay(replay, k);
     tell_said(s, k.steps, k.states, answer)
@@ -62,7 +63,8 @@ fn begin_lent(
     answer: &mut [u64],
 ) -> u32
     requires { ⌜ (replayLength ≤ length (now replay)) × (7 ≤ length (now answer)) ⌝ }
-    ensures { λ n. ⌜ carrying n (now (replay .exit)) (now (answer .exit)) ≡ carriedOn (startOf (now (board .entry)) (now (rom .entry)) (now (ram .entry)) (now (regs .entry))) (saidOf (startOf (now (board .entry)) (now (rom .entry)) (now (ram .entry)) (now (regs .entry)) .stage)) (now (replay .entry)) (now (answer .entry)) ⌝ }
+    ensures call { λ n. ⌜ carrying n (now (replay .exit)) (now (answer .exit)) ≡ carriedOn (startOf (now (board .entry)) (now (rom .entry)) (now (ram .entry)) (now (regs .entry))) (saidOf (startOf (now (board .entry)) (now (rom .entry)) (now (ram .entry)) (now (regs .entry)) .stage)) (now (replay .entry)) (now (answer .entry)) ⌝ }
+    ensures stands { λ n. ⌜ standingOf (now (replay .exit)) ≡ startOf (now (board .entry)) (now (rom .entry)) (now (ram .entry)) (now (regs .entry)) ⌝ }
 {
     let k = start(board, rom, ram, regs);
     let g = k.stage;
@@ -83,6 +85,19 @@ fn too_short(n: usize, answer: &mut [u64]) -> u32
     )
 }
 
+// 20. The replay's numbers stay as they are, also where no replay left them.
+fn too_late(k: Standing, answer: &mut [u64]) -> u32
+    requires { ⌜ 7 ≤ length (now answer) ⌝ }
+    ensures { λ r. ⌜ noted r (now (answer .exit)) ≡ tell (replayAnswer (Report.Halted Refusal.ReplayEnded) (k .steps) (k .states)) (now (answer .entry)) ⌝ }
+{
+    replays::tell_report(
+        Report::Halted(Refusal::ReplayEnded),
+        k.steps,
+        k.states,
+        answer,
+    )
+}
+
 #[no_mangle]
 pub extern "C" fn h8_replay_begin(
     board: &[u32],
@@ -92,7 +107,8 @@ pub extern "C" fn h8_replay_begin(
     replay: &mut [u32],
     answer: &mut [u64],
 ) -> u32
-    ensures { λ n. ⌜ carrying n (now (replay .exit)) (now (answer .exit)) ≡ beginCall (now (board .entry)) (now (rom .entry)) (now (ram .entry)) (now (regs .entry)) (now (replay .entry)) (now (answer .entry)) ⌝ }
+    ensures call { λ n. ⌜ carrying n (now (replay .exit)) (now (answer .exit)) ≡ beginCall (now (board .entry)) (now (rom .entry)) (now (ram .entry)) (now (regs .entry)) (now (replay .entry)) (now (answer .entry)) ⌝ }
+    ensures stands { λ n. ⌜ BeginStands (now (board .entry)) (now (rom .entry)) (now (ram .entry)) (now (regs .entry)) (now (replay .entry)) (now (answer .entry)) (now (replay .exit)) ⌝ }
 {
     if answer.len() < 7 {
         return 13;
@@ -115,10 +131,15 @@ fn take_lent(
     answer: &mut [u64],
 ) -> u32
     requires { ⌜ (replayLength ≤ length (now replay)) × (7 ≤ length (now answer)) ⌝ }
-    ensures { λ n. ⌜ left n (now (ram .exit)) (now (replay .exit)) (now (answer .exit)) ≡ takeLeft (deliverOf (boardOf (now (board .entry))) (now (rom .entry)) (moment (standingOf (now (replay .entry))) (now (ram .entry))) (now (bytes .entry))) (now (replay .entry)) (now (answer .entry)) ⌝ }
+    ensures call { λ n. ⌜ left n (now (ram .exit)) (now (replay .exit)) (now (answer .exit)) ≡ takeOn (now (board .entry)) (now (rom .entry)) (now (ram .entry)) (now (replay .entry)) (now (bytes .entry)) (now (answer .entry)) ⌝ }
+    ensures stands { λ n. ⌜ standingOf (now (replay .exit)) ≡ deliverOf (boardOf (now (board .entry))) (now (rom .entry)) (moment (standingOf (now (replay .entry))) (now (ram .entry))) (now (bytes .entry)) .answer .replay ⌝ }
 {
-    let b = lent::board_in(board);
     let k = carried::replay_in(&replay[..]);
+    let g = k.stage;
+    if replay::over(g) {
+        return too_late(k, answer);
+    }
+    let b = lent::board_in(board);
     let q = replay::deliver(k, b, rom, ram, bytes);
     let z = q.replay;
     let s = q.said;
@@ -134,7 +155,8 @@ pub extern "C" fn h8_replay_take(
     bytes: &[u8],
     answer: &mut [u64],
 ) -> u32
-    ensures { λ n. ⌜ left n (now (ram .exit)) (now (replay .exit)) (now (answer .exit)) ≡ takeCall (now (board .entry)) (now (rom .entry)) (now (ram .entry)) (now (replay .entry)) (now (bytes .entry)) (now (answer .entry)) ⌝ }
+    ensures call { λ n. ⌜ left n (now (ram .exit)) (now (replay .exit)) (now (answer .exit)) ≡ takeCall (now (board .entry)) (now (rom .entry)) (now (ram .entry)) (now (replay .entry)) (now (bytes .entry)) (now (answer .entry)) ⌝ }
+    ensures stands { λ n. ⌜ TakeStands (now (board .entry)) (now (rom .entry)) (now (ram .entry)) (now (replay .entry)) (now (bytes .entry)) (now (answer .entry)) (now (replay .exit)) ⌝ }
 {
     if answer.len() < 7 {
         return 13;
@@ -147,17 +169,24 @@ pub extern "C" fn h8_replay_take(
 
 fn end_lent(replay: &mut [u32], answer: &mut [u64]) -> u32
     requires { ⌜ (replayLength ≤ length (now replay)) × (7 ≤ length (now answer)) ⌝ }
-    ensures { λ n. ⌜ carrying n (now (replay .exit)) (now (answer .exit)) ≡ carriedOn (endedOf (standingOf (now (replay .entry))) .replay) (Said.Final (endedOf (standingOf (now (replay .entry))) .report)) (now (replay .entry)) (now (answer .entry)) ⌝ }
+    ensures call { λ n. ⌜ carrying n (now (replay .exit)) (now (answer .exit)) ≡ endOn (now (replay .entry)) (now (answer .entry)) ⌝ }
+    ensures stands { λ n. ⌜ standingOf (now (replay .exit)) ≡ endedOf (standingOf (now (replay .entry))) .replay ⌝ }
 {
-    let q = replay::end(carried::replay_in(&replay[..]));
-    let k = q.replay;
+    let k = carried::replay_in(&replay[..]);
+    let g = k.stage;
+    if replay::shut(g) {
+        return too_late(k, answer);
+    }
+    let q = replay::end(k);
+    let z = q.replay;
     let t = q.report;
-    carry(k, Said::Final(t), replay, answer)
+    carry(z, Said::Final(t), replay, answer)
 }
 
 #[no_mangle]
 pub extern "C" fn h8_replay_end(replay: &mut [u32], answer: &mut [u64]) -> u32
-    ensures { λ n. ⌜ carrying n (now (replay .exit)) (now (answer .exit)) ≡ endCall (now (replay .entry)) (now (answer .entry)) ⌝ }
+    ensures call { λ n. ⌜ carrying n (now (replay .exit)) (now (answer .exit)) ≡ endCall (now (replay .entry)) (now (answer .entry)) ⌝ }
+    ensures stands { λ n. ⌜ EndStands (now (replay .entry)) (now (answer .entry)) (now (replay .exit)) ⌝ }
 {
     if answer.len() < 7 {
         return 13;

@@ -1,6 +1,9 @@
 use Rattle.layout.specs.Registers.{tenOf}
 use mathlib.Core.Path.{_∙_}
 use Rattle.carried.specs.Carried.{numbersOf}
+use denote.Ref.{now}
+use Rattle.carried.proofs.Back.{stored-back, and-so}
+use Rattle.carried.proofs.Sizes.{fits}
 use borrow.Author.Needs.{needs}
 use Rattle.carried.proofs.put_replay.Statement.{statement}
 use Rattle.carried.proofs.put_replay.Tie as tie
@@ -45,7 +48,11 @@ same-length c = search needs
 -- src/lib.rt:184:1
 returns : tie.Need-returns
 unfolding numbersOf tenOf
-returns c = c .before .before .put-stage .ensures ∙ rw (c .before .before .before .before .before .before .put3 .ensures, c .before .before .before .before .before .before .before .before .before .before .before .put2 .ensures, c .before .before .before .before .before .before .before .before .before .before .before .before .before .before .before .before .put .ensures, c .before .before .before .before .before .before .before .before .before .before .before .before .before .before .before .before .before .before .before .before .put-registers .ensures)
+returns c =
+    let s = c .before .before .before .before .before .before .before .before .before .before .before .before .before .before .before .before .before .before .before .before .before .before .before in
+    and-so
+    (c .before .before .put-stage .ensures ∙ rw (c .before .before .before .before .before .before .put3 .ensures, c .before .before .before .before .before .before .before .before .before .before .before .put2 .ensures, c .before .before .before .before .before .before .before .before .before .before .before .before .before .before .before .before .put .ensures, c .before .before .before .before .before .before .before .before .before .before .before .before .before .before .before .before .before .before .before .before .put-registers .ensures))
+    (λ e. stored-back (s .args .k) (now (s .args .l)) _ (fits (s .args .k) _ (s .good .1 .0)) e)
 
 pub put-replay-spec : {M : Type 1} → statement M
 put-replay-spec =

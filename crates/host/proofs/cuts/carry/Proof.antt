@@ -10,4 +10,7 @@ unfolding carriedOn
 carry-spec =
     tie.close
     (tie.spec (λ c κs. search needs) (λ c κs. search needs) (λ c. search needs) (λ c. search needs)
-    (λ c. let s = c .before .before .before .before .before .before .before .before .before .before in carry-on (c .before .before .tell-said .ensures) (numbers-stored (s .args .k) (now (s .args .replay)) _ (s .pre .0) (c .before .before .before .before .before .before .put-replay .ensures))))
+    (λ c.
+    let s = c .before .before .before .before .before .before .before .before .before .before in
+    let p = c .before .before .before .before .before .before .put-replay .ensures in
+    (carry-on (c .before .before .tell-said .ensures) (numbers-stored (s .args .k) (now (s .args .replay)) _ (s .pre .0) (p .0)), p .1 (s .pre .0))))
