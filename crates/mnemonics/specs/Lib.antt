@@ -1,5 +1,5 @@
 pub mod Parts
 pub mod Names
-pub mod Table
+pub mod MirrorTable
 pub mod Operands
 pub mod Instructions

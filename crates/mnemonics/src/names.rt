@@ -2,7 +2,7 @@
 ghost use mathlib.Core.Path.{_≡_};
 ghost use mathlib.Core.List.{[], _∷_};
 ghost use Rattle.text.specs.Lines.{Adds};
-ghost use Rattle.mnemonics.specs.Table.{nameAt};
+ghost use Rattle.mnemonics.specs.MirrorTable.{nameAt};
 ghost use Rattle.mnemonics.specs.Names.{numeralOf, halfOf, letterOfWord, byteReg, wordReg, longReg, regOf, markOf, opName, opMark, wayName, multiplyName, divideName, takeName, giveName, addsName, decimalName, turnName, singleName, changeName, byOf, branchNames, branchName};
 use arith::Width;
 use codes::By;

@@ -1,4 +1,4 @@
-use Rattle.mnemonics.specs.Table.{nameAt}
+use Rattle.mnemonics.specs.MirrorTable.{nameAt}
 use borrow.Author.Needs.{needs}
 use Rattle.mnemonics.proofs.instructions.instruction.Statement.{statement}
 use Rattle.mnemonics.proofs.instructions.instruction.Tie as tie

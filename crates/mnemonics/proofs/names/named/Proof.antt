@@ -1,4 +1,4 @@
-use Rattle.mnemonics.specs.Table.{nameAt}
+use Rattle.mnemonics.specs.MirrorTable.{nameAt}
 use mathlib.Core.Path.{_≡_}
 use Prim.Native.Nat.{ℕ, _+_, _-_}
 use native.Mathlib.Omega.{arith}

@@ -1,4 +1,4 @@
-use Rattle.mnemonics.specs.Table.{nameAt}
+use Rattle.mnemonics.specs.MirrorTable.{nameAt}
 use borrow.Author.Needs.{needs}
 use Rattle.mnemonics.proofs.operands.reach_mark.Statement.{statement}
 use Rattle.mnemonics.proofs.operands.reach_mark.Tie as tie
