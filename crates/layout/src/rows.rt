@@ -404,16 +404,8 @@ fn read_row(f: Row) -> Instruction
     ensures { λ r. ⌜ r ≡ readRow f ⌝ }
 {
     let kind = f.kind;
-    let sign = choices::sign_at(f.which);
-    let h = choices::half_at(f.width);
-    let s = low8(f.other);
     let w = choices::width_at(f.width);
     let way = choices::way_at(f.which);
-    let by = choices::by_at(f.form);
-    let reach = reach_at(f.form, f.value);
-    let target = target_at(f.form, f.other, f.value);
-    let index = index_at(f.width, f.other);
-    let spot = spot_at(f.form, f.value, f.reg);
     let d = low8(f.reg);
     match kind {
         0 => Instruction::Nop,
@@ -426,8 +418,8 @@ fn read_row(f: Row) -> Instruction
             source_at(f.form, f.other, f.value),
             d,
         ),
-        5 => Instruction::IncDec(way, w, by, d),
-        6 => Instruction::AddsSubs(way, by, d),
+        5 => Instruction::IncDec(way, w, choices::by_at(f.form), d),
+        6 => Instruction::AddsSubs(way, choices::by_at(f.form), d),
         7 => Instruction::Decimal(way, d),
         8 => Instruction::Shift(choices::turn_at(f.which), w, d),
         9 => Instruction::Unary(choices::single_at(f.which), w, d),
@@ -437,15 +429,33 @@ fn read_row(f: Row) -> Instruction
             place_at(f.form, f.other, f.value),
             d,
         ),
-        11 => Instruction::Bcc(low8(f.which), reach),
-        12 => Instruction::Jmp(target),
-        13 => Instruction::Bsr(reach),
-        14 => Instruction::Jsr(target),
+        11 => Instruction::Bcc(low8(f.which), reach_at(f.form, f.value)),
+        12 => Instruction::Jmp(target_at(f.form, f.other, f.value)),
+        13 => Instruction::Bsr(reach_at(f.form, f.value)),
+        14 => Instruction::Jsr(target_at(f.form, f.other, f.value)),
         15 => Instruction::Rts,
-        16 => Instruction::Multiply(sign, h, s, d),
-        17 => Instruction::Divide(sign, h, s, d),
-        18 => Instruction::Takes(choices::take_at(f.which), index, spot),
-        _ => Instruction::Gives(choices::give_at(f.which), index, spot),
+        16 => Instruction::Multiply(
+            choices::sign_at(f.which),
+            choices::half_at(f.width),
+            low8(f.other),
+            d,
+        ),
+        17 => Instruction::Divide(
+            choices::sign_at(f.which),
+            choices::half_at(f.width),
+            low8(f.other),
+            d,
+        ),
+        18 => Instruction::Takes(
+            choices::take_at(f.which),
+            index_at(f.width, f.other),
+            spot_at(f.form, f.value, f.reg),
+        ),
+        _ => Instruction::Gives(
+            choices::give_at(f.which),
+            index_at(f.width, f.other),
+            spot_at(f.form, f.value, f.reg),
+        ),
     }
 }
 
