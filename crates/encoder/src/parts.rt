@@ -84,7 +84,14 @@ fn digits(hi: u8, lo: u8) -> u32
     wide(hi) * 16 + wide(lo)
 }
 
-// and with `up` added to the upper one
+// A code of one word whose second byte is two digits
+fn word(a: u32, hi: u8, lo: u8) -> Parts
+    ensures { λ r. ⌜ r ≡ mk1 a (hi · lo) ⌝ }
+{
+    one(a, digits(hi, lo))
+}
+
+// The byte of two digits with `up` added to the upper one
 fn raised(up: u8, hi: u8, lo: u8) -> u32
     ensures { λ r. ⌜ r ≡ (up + hi) · lo ⌝ }
 {
@@ -94,16 +101,18 @@ fn raised(up: u8, hi: u8, lo: u8) -> u32
 fn long_parts(op: Op, s: u8, d: u8) -> Parts
     ensures { λ r. ⌜ r ≡ longParts op s d ⌝ }
 {
+    let up = raised(8, s, d);
+    let b = digits(s, d);
     match op {
-        Op::Add => one(0x0A, raised(8, s, d)),
-        Op::Sub => one(0x1A, raised(8, s, d)),
-        Op::Cmp => one(0x1F, raised(8, s, d)),
-        Op::Mov => one(0x0F, raised(8, s, d)),
+        Op::Add => one(0x0A, up),
+        Op::Sub => one(0x1A, up),
+        Op::Cmp => one(0x1F, up),
+        Op::Mov => one(0x0F, up),
         Op::Addx => one(0, 0),
         Op::Subx => one(0, 0),
-        Op::Or => two(0x01, 0xF0, 0x64, digits(s, d)),
-        Op::Xor => two(0x01, 0xF0, 0x65, digits(s, d)),
-        Op::And => two(0x01, 0xF0, 0x66, digits(s, d)),
+        Op::Or => two(0x01, 0xF0, 0x64, b),
+        Op::Xor => two(0x01, 0xF0, 0x65, b),
+        Op::And => two(0x01, 0xF0, 0x66, b),
     }
 }
 
@@ -111,8 +120,8 @@ fn reg_parts(op: Op, w: Width, s: u8, d: u8) -> Parts
     ensures { λ r. ⌜ r ≡ regParts op w s d ⌝ }
 {
     match w {
-        Width::Byte => one(tables::byte_code(op), digits(s, d)),
-        Width::Word => one(tables::word_code(op), digits(s, d)),
+        Width::Byte => word(tables::byte_code(op), s, d),
+        Width::Word => word(tables::word_code(op), s, d),
         Width::Long => long_parts(op, s, d),
     }
 }
@@ -151,31 +160,28 @@ fn alu_parts(op: Op, w: Width, source: Source, d: u8) -> Parts
 fn inc_dec_parts(way: Way, w: Width, by: By, r: u8) -> Parts
     ensures { λ p. ⌜ p ≡ incDecParts way w by r ⌝ }
 {
+    let k = tables::way_digit(way);
     match w {
-        Width::Byte => one(digits(tables::way_digit(way), 0xA), digits(0, r)),
-        Width::Word => one(
-            digits(tables::way_digit(way), 0xB),
-            digits(tables::word_digit(by), r),
-        ),
-        Width::Long => one(
-            digits(tables::way_digit(way), 0xB),
-            digits(tables::long_digit(by), r),
-        ),
+        Width::Byte => word(digits(k, 0xA), 0, r),
+        Width::Word => word(digits(k, 0xB), tables::word_digit(by), r),
+        Width::Long => word(digits(k, 0xB), tables::long_digit(by), r),
     }
 }
 
 fn shift_parts(turn: Turn, w: Width, r: u8) -> Parts
     ensures { λ p. ⌜ p ≡ shiftParts turn w r ⌝ }
 {
+    let k = tables::digit_013(w);
+    let l = tables::digit_89b(w);
     match turn {
-        Turn::Shll => one(0x10, digits(tables::digit_013(w), r)),
-        Turn::Shlr => one(0x11, digits(tables::digit_013(w), r)),
-        Turn::Rotxl => one(0x12, digits(tables::digit_013(w), r)),
-        Turn::Rotxr => one(0x13, digits(tables::digit_013(w), r)),
-        Turn::Shal => one(0x10, digits(tables::digit_89b(w), r)),
-        Turn::Shar => one(0x11, digits(tables::digit_89b(w), r)),
-        Turn::Rotl => one(0x12, digits(tables::digit_89b(w), r)),
-        Turn::Rotr => one(0x13, digits(tables::digit_89b(w), r)),
+        Turn::Shll => word(0x10, k, r),
+        Turn::Shlr => word(0x11, k, r),
+        Turn::Rotxl => word(0x12, k, r),
+        Turn::Rotxr => word(0x13, k, r),
+        Turn::Shal => word(0x10, l, r),
+        Turn::Shar => word(0x11, l, r),
+        Turn::Rotl => word(0x12, l, r),
+        Turn::Rotr => word(0x13, l, r),
     }
 }
 
@@ -183,17 +189,18 @@ fn unary_parts(single: Single, w: Width, r: u8) -> Parts
     ensures { λ p. ⌜ p ≡ unaryParts single w r ⌝ }
 {
     match single {
-        Single::Not => one(0x17, digits(tables::digit_013(w), r)),
-        Single::Neg => one(0x17, digits(tables::digit_89b(w), r)),
-        Single::Extu => one(0x17, digits(tables::extu_digit(w), r)),
-        Single::Exts => one(0x17, digits(tables::exts_digit(w), r)),
+        Single::Not => word(0x17, tables::digit_013(w), r),
+        Single::Neg => word(0x17, tables::digit_89b(w), r),
+        Single::Extu => word(0x17, tables::extu_digit(w), r),
+        Single::Exts => word(0x17, tables::exts_digit(w), r),
     }
 }
 
 // MULXS and DIVXS have 01 and the byte c before the word of MULXU and DIVXU.
-fn product_parts(sign: Sign, c: u32, a: u32, b: u32) -> Parts
-    ensures { λ h. ⌜ h ≡ productParts sign c a b ⌝ }
+fn product_parts(sign: Sign, c: u32, a: u32, s: u8, d: u8) -> Parts
+    ensures { λ h. ⌜ h ≡ productParts sign c a (s · d) ⌝ }
 {
+    let b = digits(s, d);
     match sign {
         Sign::Unsigned => one(a, b),
         Sign::Signed => two(0x01, c, a, b),
@@ -252,8 +259,9 @@ fn place_parts(prefix: Prefix, more: u8, dir: Dir, p: Place, r: u8) -> Parts
     ensures { λ h. ⌜ h ≡ placeParts prefix more dir p r ⌝ }
 {
     let k = tables::dir_digit(dir);
+    let m = wide(more);
     match p {
-        Place::At(e) => made(prefix, 0x68 + wide(more), raised(k, e, r), Tail::NoTail, 0),
+        Place::At(e) => made(prefix, 0x68 + m, raised(k, e, r), Tail::NoTail, 0),
         Place::Abs8(a) => made(
             prefix,
             digits(tables::abs8_digit(dir), r),
@@ -261,22 +269,10 @@ fn place_parts(prefix: Prefix, more: u8, dir: Dir, p: Place, r: u8) -> Parts
             Tail::NoTail,
             0,
         ),
-        Place::Step(e) => made(prefix, 0x6C + wide(more), raised(k, e, r), Tail::NoTail, 0),
-        Place::Disp(e, d) => made(
-            prefix,
-            0x6E + wide(more),
-            raised(k, e, r),
-            Tail::Tail16,
-            d as u32,
-        ),
-        Place::Abs16(a) => made(
-            prefix,
-            0x6A + wide(more),
-            raised(k, 0, r),
-            Tail::Tail16,
-            a as u32,
-        ),
-        Place::Abs24(a) => made(prefix, 0x6A + wide(more), raised(k, 2, r), Tail::Tail32, a),
+        Place::Step(e) => made(prefix, 0x6C + m, raised(k, e, r), Tail::NoTail, 0),
+        Place::Disp(e, d) => made(prefix, 0x6E + m, raised(k, e, r), Tail::Tail16, d as u32),
+        Place::Abs16(a) => made(prefix, 0x6A + m, raised(k, 0, r), Tail::Tail16, a as u32),
+        Place::Abs24(a) => made(prefix, 0x6A + m, raised(k, 2, r), Tail::Tail32, a),
     }
 }
 
@@ -330,29 +326,32 @@ pub fn parts_of(i: Instruction) -> Parts
 {
     match i {
         Instruction::Nop => one(0x00, 0x00),
-        Instruction::Stc(r) => one(0x02, digits(0, r)),
-        Instruction::LdcReg(r) => one(0x03, digits(0, r)),
+        Instruction::Stc(r) => word(0x02, 0, r),
+        Instruction::LdcReg(r) => word(0x03, 0, r),
         Instruction::Ccr(change, v) => one(tables::change_code(change), wide(v)),
         Instruction::Alu(op, w, source, d) => alu_parts(op, w, source, d),
         Instruction::IncDec(way, w, by, r) => inc_dec_parts(way, w, by, r),
-        Instruction::AddsSubs(way, by, e) => one(
+        Instruction::AddsSubs(way, by, e) => word(
             digits(tables::way_digit(way), 0xB),
-            digits(tables::adds_digit(by), e),
+            tables::adds_digit(by),
+            e,
         ),
-        Instruction::Decimal(way, r) => one(digits(tables::way_digit(way), 0xF), digits(0, r)),
+        Instruction::Decimal(way, r) => word(digits(tables::way_digit(way), 0xF), 0, r),
         Instruction::Shift(turn, w, r) => shift_parts(turn, w, r),
         Instruction::Unary(single, w, r) => unary_parts(single, w, r),
         Instruction::Multiply(sign, h, s, d) => product_parts(
             sign,
             0xC0,
             tables::unsigned_multiply(h),
-            digits(s, d),
+            s,
+            d,
         ),
         Instruction::Divide(sign, h, s, d) => product_parts(
             sign,
             0xD0,
             tables::unsigned_divide(h),
-            digits(s, d),
+            s,
+            d,
         ),
         Instruction::Takes(take, index, spot) => take_parts(take, index, spot),
         Instruction::Gives(give, index, spot) => give_parts(give, index, spot),

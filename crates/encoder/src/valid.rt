@@ -80,15 +80,8 @@ fn has_reg(op: Op, w: Width) -> bool
     ensures { λ k. ⌜ k ≡ hasReg op w ⌝ }
 {
     match op {
-        Op::Add => true,
-        Op::Sub => true,
-        Op::Cmp => true,
-        Op::Mov => true,
-        Op::Addx => is_byte(w),
-        Op::Subx => is_byte(w),
-        Op::Or => true,
-        Op::Xor => true,
-        Op::And => true,
+        Op::Addx | Op::Subx => is_byte(w),
+        _ => true,
     }
 }
 
@@ -96,15 +89,9 @@ fn has_imm(op: Op, w: Width) -> bool
     ensures { λ k. ⌜ k ≡ hasImm op w ⌝ }
 {
     match op {
-        Op::Add => true,
         Op::Sub => not_byte(w),
-        Op::Cmp => true,
-        Op::Mov => true,
-        Op::Addx => is_byte(w),
-        Op::Subx => is_byte(w),
-        Op::Or => true,
-        Op::Xor => true,
-        Op::And => true,
+        Op::Addx | Op::Subx => is_byte(w),
+        _ => true,
     }
 }
 

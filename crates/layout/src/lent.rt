@@ -1,6 +1,7 @@
 // Numbers out of lent arrays and into them. What an array lacks reads as 0 and is not written: whoever promises more looks at the length first.
 ghost use mathlib.Core.Path.{_≡_};
 ghost use mathlib.Core.List.{[], _∷_};
+ghost use Prim.Native.Nat.{_<_};
 ghost use lib.ListN.{getD, set};
 ghost use lib.Seq.{sets};
 ghost use Rattle.layout.specs.Rows.{nine};
@@ -57,13 +58,31 @@ pub fn put_four(l: &mut [u32], a: u32, b: u32, c: u32, d: u32)
     put(l, 3, d)
 }
 
+// Four numbers from the place i on.
+fn put_four_at(l: &mut [u32], i: usize, a: u32, b: u32, c: u32, d: u32)
+    requires { ⌜ i < 16 ⌝ }
+    ensures { λ _. ⌜ now (l .exit) ≡ sets (now (l .entry)) i (a ∷ b ∷ c ∷ d ∷ []) ⌝ }
+{
+    put(l, i, a);
+    put(l, i + 1, b);
+    put(l, i + 2, c);
+    put(l, i + 3, d)
+}
+
+fn put_four_wide_at(l: &mut [u64], i: usize, a: u64, b: u64, c: u64, d: u64)
+    requires { ⌜ i < 16 ⌝ }
+    ensures { λ _. ⌜ now (l .exit) ≡ sets (now (l .entry)) i (a ∷ b ∷ c ∷ d ∷ []) ⌝ }
+{
+    put_wide(l, i, a);
+    put_wide(l, i + 1, b);
+    put_wide(l, i + 2, c);
+    put_wide(l, i + 3, d)
+}
+
 pub fn put_four_wide(l: &mut [u64], a: u64, b: u64, c: u64, d: u64)
     ensures { λ _. ⌜ now (l .exit) ≡ sets (now (l .entry)) 0 (a ∷ b ∷ c ∷ d ∷ []) ⌝ }
 {
-    put_wide(l, 0, a);
-    put_wide(l, 1, b);
-    put_wide(l, 2, c);
-    put_wide(l, 3, d)
+    put_four_wide_at(l, 0, a, b, c, d)
 }
 
 pub fn put_six_wide(l: &mut [u64], a: u64, b: u64, c: u64, d: u64, e: u64, f: u64)
@@ -84,19 +103,13 @@ pub fn put_seven_wide(l: &mut [u64], a: u64, b: u64, c: u64, d: u64, e: u64, f: 
 fn put_lower(l: &mut [u64], k: [u32; 8])
     ensures { λ _. ⌜ now (l .exit) ≡ sets (now (l .entry)) 7 (getD k 0 0 ∷ getD k 1 0 ∷ getD k 2 0 ∷ getD k 3 0 ∷ []) ⌝ }
 {
-    put_wide(l, 7, k[0] as u64);
-    put_wide(l, 8, k[1] as u64);
-    put_wide(l, 9, k[2] as u64);
-    put_wide(l, 10, k[3] as u64)
+    put_four_wide_at(l, 7, k[0] as u64, k[1] as u64, k[2] as u64, k[3] as u64)
 }
 
 fn put_upper(l: &mut [u64], k: [u32; 8])
     ensures { λ _. ⌜ now (l .exit) ≡ sets (now (l .entry)) 11 (getD k 4 0 ∷ getD k 5 0 ∷ getD k 6 0 ∷ getD k 7 0 ∷ []) ⌝ }
 {
-    put_wide(l, 11, k[4] as u64);
-    put_wide(l, 12, k[5] as u64);
-    put_wide(l, 13, k[6] as u64);
-    put_wide(l, 14, k[7] as u64)
+    put_four_wide_at(l, 11, k[4] as u64, k[5] as u64, k[6] as u64, k[7] as u64)
 }
 
 // Six numbers, how many addresses a run keeps, and these.
@@ -137,14 +150,8 @@ pub fn row_in(l: &[u32]) -> Row
 pub fn put_row(l: &mut [u32], f: Row, n: u32, s: u32)
     ensures { λ _. ⌜ now (l .exit) ≡ sets (now (l .entry)) 0 (nine f n s) ⌝ }
 {
-    put(l, 0, f.kind);
-    put(l, 1, f.which);
-    put(l, 2, f.width);
-    put(l, 3, f.form);
-    put(l, 4, f.other);
-    put(l, 5, f.value);
-    put(l, 6, f.reg);
-    put(l, 7, n);
+    put_four_at(l, 0, f.kind, f.which, f.width, f.form);
+    put_four_at(l, 4, f.other, f.value, f.reg, n);
     put(l, 8, s)
 }
 
@@ -195,19 +202,13 @@ pub fn registers_in(l: &[u32]) -> Registers
 fn put_low(l: &mut [u32], r: Registers)
     ensures { λ _. ⌜ now (l .exit) ≡ sets (now (l .entry)) 0 (getD (r .er) 0 0 ∷ getD (r .er) 1 0 ∷ getD (r .er) 2 0 ∷ getD (r .er) 3 0 ∷ []) ⌝ }
 {
-    put(l, 0, r.er[0]);
-    put(l, 1, r.er[1]);
-    put(l, 2, r.er[2]);
-    put(l, 3, r.er[3])
+    put_four_at(l, 0, r.er[0], r.er[1], r.er[2], r.er[3])
 }
 
 fn put_high(l: &mut [u32], r: Registers)
     ensures { λ _. ⌜ now (l .exit) ≡ sets (now (l .entry)) 4 (getD (r .er) 4 0 ∷ getD (r .er) 5 0 ∷ getD (r .er) 6 0 ∷ getD (r .er) 7 0 ∷ []) ⌝ }
 {
-    put(l, 4, r.er[4]);
-    put(l, 5, r.er[5]);
-    put(l, 6, r.er[6]);
-    put(l, 7, r.er[7])
+    put_four_at(l, 4, r.er[4], r.er[5], r.er[6], r.er[7])
 }
 
 pub fn put_registers(l: &mut [u32], r: Registers)

@@ -165,7 +165,7 @@ fn target_row(target: Target) -> Operand
     }
 }
 
-fn made(kind: u32, which: u32, width: u32, o: Operand, reg: u32) -> Row
+fn made(kind: u32, which: u32, width: u32, o: Operand, reg: u8) -> Row
     ensures { λ r. ⌜ r ≡ row kind which width o reg ⌝ }
 {
     Row {
@@ -175,8 +175,15 @@ fn made(kind: u32, which: u32, width: u32, o: Operand, reg: u32) -> Row
         form: o.form,
         other: o.other,
         value: o.value,
-        reg: reg,
+        reg: reg as u32,
     }
+}
+
+// Without an operand.
+fn bare(kind: u32, which: u32, width: u32, reg: u8) -> Row
+    ensures { λ r. ⌜ r ≡ row kind which width noOperand reg ⌝ }
+{
+    made(kind, which, width, no_operand(), reg)
 }
 
 // MULXU, MULXS, DIVXU and DIVXS: the width is that of the source.
@@ -188,7 +195,7 @@ fn product_row(kind: u32, sign: Sign, h: Half, s: u8, d: u8) -> Row
         choices::sign_number(sign),
         choices::width_number(products::factor_width(h)),
         source_row(Source::Reg(s)),
-        d as u32,
+        d,
     )
 }
 
@@ -259,64 +266,50 @@ pub fn row_of(i: Instruction) -> Row
     ensures { λ r. ⌜ r ≡ rowOf i ⌝ }
 {
     match i {
-        Instruction::Nop => made(0, 0, 0, no_operand(), 0),
-        Instruction::Stc(d) => made(1, 0, 0, no_operand(), d as u32),
-        Instruction::LdcReg(s) => made(2, 0, 0, no_operand(), s as u32),
+        Instruction::Nop => bare(0, 0, 0, 0),
+        Instruction::Stc(d) => bare(1, 0, 0, d),
+        Instruction::LdcReg(s) => bare(2, 0, 0, s),
         Instruction::Ccr(change, v) => made(3, choices::change_number(change), 0, value_row(v), 0),
         Instruction::Alu(op, w, source, d) => made(
             4,
             choices::op_number(op),
             choices::width_number(w),
             source_row(source),
-            d as u32,
+            d,
         ),
         Instruction::IncDec(way, w, by, d) => made(
             5,
             choices::way_number(way),
             choices::width_number(w),
             by_row(by),
-            d as u32,
+            d,
         ),
-        Instruction::AddsSubs(way, by, d) => made(
-            6,
-            choices::way_number(way),
-            0,
-            by_row(by),
-            d as u32,
-        ),
-        Instruction::Decimal(way, d) => made(
-            7,
-            choices::way_number(way),
-            0,
-            no_operand(),
-            d as u32,
-        ),
-        Instruction::Shift(turn, w, d) => made(
+        Instruction::AddsSubs(way, by, d) => made(6, choices::way_number(way), 0, by_row(by), d),
+        Instruction::Decimal(way, d) => bare(7, choices::way_number(way), 0, d),
+        Instruction::Shift(turn, w, d) => bare(
             8,
             choices::turn_number(turn),
             choices::width_number(w),
-            no_operand(),
-            d as u32,
+            d,
         ),
-        Instruction::Unary(single, w, d) => made(
+        Instruction::Unary(single, w, d) => bare(
             9,
             choices::single_number(single),
             choices::width_number(w),
-            no_operand(),
-            d as u32,
+            d,
         ),
         Instruction::Move(dir, w, p, r) => made(
             10,
             choices::dir_number(dir),
             choices::width_number(w),
             place_row(p),
-            r as u32,
+            r,
         ),
         Instruction::Bcc(c, reach) => made(11, c as u32, 0, reach_row(reach), 0),
         Instruction::Jmp(target) => made(12, 0, 0, target_row(target), 0),
         Instruction::Bsr(reach) => made(13, 0, 0, reach_row(reach), 0),
         Instruction::Jsr(target) => made(14, 0, 0, target_row(target), 0),
-        Instruction::Rts => made(15, 0, 0, no_operand(), 0),
+        Instruction::Rts => bare(15, 0, 0, 0),
         Instruction::Multiply(sign, h, s, d) => product_row(16, sign, h, s, d),
         Instruction::Divide(sign, h, s, d) => product_row(17, sign, h, s, d),
         Instruction::Takes(take, index, spot) => bit_row(
@@ -413,11 +406,6 @@ fn read_row(f: Row) -> Instruction
     let kind = f.kind;
     let w = choices::width_at(f.width);
     let way = choices::way_at(f.which);
-    let by = choices::by_at(f.form);
-    let reach = reach_at(f.form, f.value);
-    let target = target_at(f.form, f.other, f.value);
-    let index = index_at(f.width, f.other);
-    let spot = spot_at(f.form, f.value, f.reg);
     let d = low8(f.reg);
     match kind {
         0 => Instruction::Nop,
@@ -430,8 +418,8 @@ fn read_row(f: Row) -> Instruction
             source_at(f.form, f.other, f.value),
             d,
         ),
-        5 => Instruction::IncDec(way, w, by, d),
-        6 => Instruction::AddsSubs(way, by, d),
+        5 => Instruction::IncDec(way, w, choices::by_at(f.form), d),
+        6 => Instruction::AddsSubs(way, choices::by_at(f.form), d),
         7 => Instruction::Decimal(way, d),
         8 => Instruction::Shift(choices::turn_at(f.which), w, d),
         9 => Instruction::Unary(choices::single_at(f.which), w, d),
@@ -441,10 +429,10 @@ fn read_row(f: Row) -> Instruction
             place_at(f.form, f.other, f.value),
             d,
         ),
-        11 => Instruction::Bcc(low8(f.which), reach),
-        12 => Instruction::Jmp(target),
-        13 => Instruction::Bsr(reach),
-        14 => Instruction::Jsr(target),
+        11 => Instruction::Bcc(low8(f.which), reach_at(f.form, f.value)),
+        12 => Instruction::Jmp(target_at(f.form, f.other, f.value)),
+        13 => Instruction::Bsr(reach_at(f.form, f.value)),
+        14 => Instruction::Jsr(target_at(f.form, f.other, f.value)),
         15 => Instruction::Rts,
         16 => Instruction::Multiply(
             choices::sign_at(f.which),
@@ -458,8 +446,16 @@ fn read_row(f: Row) -> Instruction
             low8(f.other),
             d,
         ),
-        18 => Instruction::Takes(choices::take_at(f.which), index, spot),
-        _ => Instruction::Gives(choices::give_at(f.which), index, spot),
+        18 => Instruction::Takes(
+            choices::take_at(f.which),
+            index_at(f.width, f.other),
+            spot_at(f.form, f.value, f.reg),
+        ),
+        _ => Instruction::Gives(
+            choices::give_at(f.which),
+            index_at(f.width, f.other),
+            spot_at(f.form, f.value, f.reg),
+        ),
     }
 }
 

@@ -25,6 +25,7 @@ use codes::Way;
 use products::Half;
 use text::Line;
 use text::bytes;
+use text::put;
 
 fn stc(l: Line, d: u8) -> Line
     ensures { λ r. ⌜ Adds l (stcText d) r ⌝ }
@@ -33,49 +34,49 @@ fn stc(l: Line, d: u8) -> Line
     names::byte_reg(a, d)
 }
 
-fn ldc(l: Line, d: u8) -> Line
+fn ldc(mut l: Line, d: u8) -> Line
     ensures { λ r. ⌜ Adds l (ldcText d) r ⌝ }
 {
-    let a = bytes(l, b"LDC.B ");
-    let b = names::byte_reg(a, d);
-    bytes(b, b",CCR")
+    l = bytes(l, b"LDC.B ");
+    l = names::byte_reg(l, d);
+    bytes(l, b",CCR")
 }
 
-fn ccr(l: Line, change: Change, x: u8) -> Line
+fn ccr(mut l: Line, change: Change, x: u8) -> Line
     ensures { λ r. ⌜ Adds l (ccrText change x) r ⌝ }
 {
-    let a = names::change_name(l, change);
-    let b = operands::immediate(a, Width::Byte, x as u32);
-    bytes(b, b",CCR")
+    l = names::change_name(l, change);
+    l = operands::immediate(l, Width::Byte, x as u32);
+    bytes(l, b",CCR")
 }
 
-fn alu(l: Line, op: Op, w: Width, s: Source, d: u8) -> Line
+fn alu(mut l: Line, op: Op, w: Width, s: Source, d: u8) -> Line
     ensures { λ r. ⌜ Adds l (aluText op w s d) r ⌝ }
 {
-    let a = names::op_name(l, op);
-    let b = names::op_mark(a, op, w);
-    let c = bytes(b, b" ");
-    let e = operands::source(c, w, s);
-    let f = bytes(e, b",");
-    names::reg(f, w, d)
+    l = names::op_name(l, op);
+    l = names::op_mark(l, op, w);
+    l = put(l, b' ');
+    l = operands::source(l, w, s);
+    l = put(l, b',');
+    names::reg(l, w, d)
 }
 
-fn count(l: Line, way: Way, w: Width, by: By, d: u8) -> Line
+fn count(mut l: Line, way: Way, w: Width, by: By, d: u8) -> Line
     ensures { λ r. ⌜ Adds l (countText way w by d) r ⌝ }
 {
-    let a = names::way_name(l, way);
-    let b = names::mark(a, w);
-    let c = bytes(b, b" ");
-    let e = operands::count(c, w, by);
-    names::reg(e, w, d)
+    l = names::way_name(l, way);
+    l = names::mark(l, w);
+    l = put(l, b' ');
+    l = operands::count(l, w, by);
+    names::reg(l, w, d)
 }
 
-fn adds(l: Line, way: Way, by: By, d: u8) -> Line
+fn adds(mut l: Line, way: Way, by: By, d: u8) -> Line
     ensures { λ r. ⌜ Adds l (addsText way by d) r ⌝ }
 {
-    let a = names::adds_name(l, way);
-    let b = names::by(a, by);
-    names::long_reg(b, d)
+    l = names::adds_name(l, way);
+    l = names::by(l, by);
+    names::long_reg(l, d)
 }
 
 fn decimal(l: Line, way: Way, d: u8) -> Line
@@ -85,34 +86,34 @@ fn decimal(l: Line, way: Way, d: u8) -> Line
     names::byte_reg(a, d)
 }
 
-fn shift(l: Line, turn: Turn, w: Width, d: u8) -> Line
+fn shift(mut l: Line, turn: Turn, w: Width, d: u8) -> Line
     ensures { λ r. ⌜ Adds l (shiftText turn w d) r ⌝ }
 {
-    let a = names::turn_name(l, turn);
-    let b = names::mark(a, w);
-    let c = bytes(b, b" ");
-    names::reg(c, w, d)
+    l = names::turn_name(l, turn);
+    l = names::mark(l, w);
+    l = put(l, b' ');
+    names::reg(l, w, d)
 }
 
-fn unary(l: Line, single: Single, w: Width, d: u8) -> Line
+fn unary(mut l: Line, single: Single, w: Width, d: u8) -> Line
     ensures { λ r. ⌜ Adds l (unaryText single w d) r ⌝ }
 {
-    let a = names::single_name(l, single);
-    let b = names::mark(a, w);
-    let c = bytes(b, b" ");
-    names::reg(c, w, d)
+    l = names::single_name(l, single);
+    l = names::mark(l, w);
+    l = put(l, b' ');
+    names::reg(l, w, d)
 }
 
 // The mark, the source and the destination of a product or a quotient.
-fn product(l: Line, h: Half, s: u8, d: u8) -> Line
+fn product(mut l: Line, h: Half, s: u8, d: u8) -> Line
     ensures { λ r. ⌜ Adds l (productText h s d) r ⌝ }
 {
     let w = products::factor_width(h);
-    let a = names::mark(l, w);
-    let b = bytes(a, b" ");
-    let c = names::reg(b, w, s);
-    let e = bytes(c, b",");
-    names::reg(e, products::product_width(h), d)
+    l = names::mark(l, w);
+    l = put(l, b' ');
+    l = names::reg(l, w, s);
+    l = put(l, b',');
+    names::reg(l, products::product_width(h), d)
 }
 
 fn multiply(l: Line, sign: Sign, h: Half, s: u8, d: u8) -> Line
@@ -130,12 +131,12 @@ fn divide(l: Line, sign: Sign, h: Half, s: u8, d: u8) -> Line
 }
 
 // The bit's number and its byte.
-fn bit(l: Line, index: Index, spot: Spot) -> Line
+fn bit(mut l: Line, index: Index, spot: Spot) -> Line
     ensures { λ r. ⌜ Adds l (bitText index spot) r ⌝ }
 {
-    let a = operands::index(l, index);
-    let b = bytes(a, b",");
-    operands::spot(b, spot)
+    l = operands::index(l, index);
+    l = put(l, b',');
+    operands::spot(l, spot)
 }
 
 fn take(l: Line, take: Take, index: Index, spot: Spot) -> Line
@@ -152,26 +153,26 @@ fn give(l: Line, give: Give, index: Index, spot: Spot) -> Line
     bit(a, index, spot)
 }
 
-fn load(l: Line, w: Width, p: Place, d: u8) -> Line
+fn load(mut l: Line, w: Width, p: Place, d: u8) -> Line
     ensures { λ r. ⌜ Adds l (loadText w p d) r ⌝ }
 {
-    let a = bytes(l, b"MOV");
-    let b = names::mark(a, w);
-    let c = bytes(b, b" ");
-    let e = operands::place(c, Dir::Load, p);
-    let f = bytes(e, b",");
-    names::reg(f, w, d)
+    l = names::op_name(l, Op::Mov);
+    l = names::mark(l, w);
+    l = put(l, b' ');
+    l = operands::place(l, Dir::Load, p);
+    l = put(l, b',');
+    names::reg(l, w, d)
 }
 
-fn store(l: Line, w: Width, p: Place, d: u8) -> Line
+fn store(mut l: Line, w: Width, p: Place, d: u8) -> Line
     ensures { λ r. ⌜ Adds l (storeText w p d) r ⌝ }
 {
-    let a = bytes(l, b"MOV");
-    let b = names::mark(a, w);
-    let c = bytes(b, b" ");
-    let e = names::reg(c, w, d);
-    let f = bytes(e, b",");
-    operands::place(f, Dir::Store, p)
+    l = names::op_name(l, Op::Mov);
+    l = names::mark(l, w);
+    l = put(l, b' ');
+    l = names::reg(l, w, d);
+    l = put(l, b',');
+    operands::place(l, Dir::Store, p)
 }
 
 fn moved(l: Line, dir: Dir, w: Width, p: Place, d: u8) -> Line
@@ -183,12 +184,12 @@ fn moved(l: Line, dir: Dir, w: Width, p: Place, d: u8) -> Line
     }
 }
 
-fn bcc(l: Line, next: u32, c: u8, reach: Reach) -> Line
+fn bcc(mut l: Line, next: u32, c: u8, reach: Reach) -> Line
     ensures { λ r. ⌜ Adds l (bccText next c reach) r ⌝ }
 {
-    let a = names::branch_name(l, c);
-    let b = bytes(a, b" ");
-    operands::reach(b, next, reach)
+    l = names::branch_name(l, c);
+    l = put(l, b' ');
+    operands::reach(l, next, reach)
 }
 
 fn bsr(l: Line, next: u32, reach: Reach) -> Line
@@ -217,7 +218,7 @@ pub fn instruction(l: Line, next: u32, i: Instruction) -> Line
     ensures { λ r. ⌜ Adds l (textOf next i) r ⌝ }
 {
     match i {
-        Instruction::Nop => bytes(l, b"NOP"),
+        Instruction::Nop => names::named(l, 493),
         Instruction::Stc(d) => stc(l, d),
         Instruction::LdcReg(d) => ldc(l, d),
         Instruction::Ccr(change, x) => ccr(l, change, x),
@@ -236,6 +237,6 @@ pub fn instruction(l: Line, next: u32, i: Instruction) -> Line
         Instruction::Jmp(to) => jmp(l, to),
         Instruction::Bsr(reach) => bsr(l, next, reach),
         Instruction::Jsr(to) => jsr(l, to),
-        Instruction::Rts => bytes(l, b"RTS"),
+        Instruction::Rts => names::named(l, 503),
     }
 }

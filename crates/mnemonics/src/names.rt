@@ -2,6 +2,7 @@
 ghost use mathlib.Core.Path.{_≡_};
 ghost use mathlib.Core.List.{[], _∷_};
 ghost use Rattle.text.specs.Lines.{Adds};
+ghost use Rattle.mnemonics.specs.MirrorTable.{nameAt};
 ghost use Rattle.mnemonics.specs.Names.{numeralOf, halfOf, letterOfWord, byteReg, wordReg, longReg, regOf, markOf, opName, opMark, wayName, multiplyName, divideName, takeName, giveName, addsName, decimalName, turnName, singleName, changeName, byOf, branchNames, branchName};
 use arith::Width;
 use codes::By;
@@ -16,6 +17,26 @@ use codes::Way;
 use text::Line;
 use text::bytes;
 use text::put;
+
+// The names in rows of six.
+const NAMES: [u8; 354] = *b"ADD   SUB   CMP   MOV   ADDX  SUBX  OR    XOR   AND   \
+    INC   DEC   ADDS  SUBS  DAA   DAS   \
+    MULXU MULXS DIVXU DIVXS \
+    BTST  BOR   BIOR  BXOR  BIXOR BAND  BIAND BLD   BILD  \
+    BSET  BNOT  BCLR  BST   BIST  \
+    SHLL  SHLR  ROTXL ROTXR SHAL  SHAR  ROTL  ROTR  \
+    NOT   NEG   EXTU  EXTS  \
+    ORC   XORC  ANDC  LDC.B \
+    NOP   RTS   .B    .W    .L    #1,   #2,   #4,   :8    :16   ";
+
+// The name whose row and length p has: ten times the row, and the length.
+pub fn named(l: Line, p: u16) -> Line
+    ensures { λ r. ⌜ Adds l (nameAt p) r ⌝ }
+{
+    let from = (p / 10 % 59) as usize * 6;
+    let n = (p % 10 % 7) as usize;
+    bytes(l, &NAMES[from..from + n])
+}
 
 fn numeral(d: u8) -> u8
     ensures { λ r. ⌜ r ≡ numeralOf d ⌝ }
@@ -91,26 +112,32 @@ pub fn mark(l: Line, w: Width) -> Line
     ensures { λ r. ⌜ Adds l (markOf w) r ⌝ }
 {
     match w {
-        Width::Byte => bytes(l, b".B"),
-        Width::Word => bytes(l, b".W"),
-        Width::Long => bytes(l, b".L"),
+        Width::Byte => named(l, 512),
+        Width::Word => named(l, 522),
+        Width::Long => named(l, 532),
+    }
+}
+
+fn op_at(op: Op) -> u16
+    ensures { λ p. ⌜ nameAt p ≡ opName op ⌝ }
+{
+    match op {
+        Op::Add => 3,
+        Op::Sub => 13,
+        Op::Cmp => 23,
+        Op::Mov => 33,
+        Op::Addx => 44,
+        Op::Subx => 54,
+        Op::Or => 62,
+        Op::Xor => 73,
+        Op::And => 83,
     }
 }
 
 pub fn op_name(l: Line, op: Op) -> Line
     ensures { λ r. ⌜ Adds l (opName op) r ⌝ }
 {
-    match op {
-        Op::Add => bytes(l, b"ADD"),
-        Op::Sub => bytes(l, b"SUB"),
-        Op::Cmp => bytes(l, b"CMP"),
-        Op::Mov => bytes(l, b"MOV"),
-        Op::Addx => bytes(l, b"ADDX"),
-        Op::Subx => bytes(l, b"SUBX"),
-        Op::Or => bytes(l, b"OR"),
-        Op::Xor => bytes(l, b"XOR"),
-        Op::And => bytes(l, b"AND"),
-    }
+    named(l, op_at(op))
 }
 
 // ADDX and SUBX are written without a size.
@@ -118,15 +145,8 @@ pub fn op_mark(l: Line, op: Op, w: Width) -> Line
     ensures { λ r. ⌜ Adds l (opMark op w) r ⌝ }
 {
     match op {
-        Op::Add => mark(l, w),
-        Op::Sub => mark(l, w),
-        Op::Cmp => mark(l, w),
-        Op::Mov => mark(l, w),
-        Op::Addx => bytes(l, b""),
-        Op::Subx => bytes(l, b""),
-        Op::Or => mark(l, w),
-        Op::Xor => mark(l, w),
-        Op::And => mark(l, w),
+        Op::Addx | Op::Subx => l,
+        _ => mark(l, w),
     }
 }
 
@@ -134,8 +154,8 @@ pub fn way_name(l: Line, way: Way) -> Line
     ensures { λ r. ⌜ Adds l (wayName way) r ⌝ }
 {
     match way {
-        Way::Up => bytes(l, b"INC"),
-        Way::Down => bytes(l, b"DEC"),
+        Way::Up => named(l, 93),
+        Way::Down => named(l, 103),
     }
 }
 
@@ -143,8 +163,8 @@ pub fn multiply_name(l: Line, sign: Sign) -> Line
     ensures { λ r. ⌜ Adds l (multiplyName sign) r ⌝ }
 {
     match sign {
-        Sign::Unsigned => bytes(l, b"MULXU"),
-        Sign::Signed => bytes(l, b"MULXS"),
+        Sign::Unsigned => named(l, 155),
+        Sign::Signed => named(l, 165),
     }
 }
 
@@ -152,45 +172,57 @@ pub fn divide_name(l: Line, sign: Sign) -> Line
     ensures { λ r. ⌜ Adds l (divideName sign) r ⌝ }
 {
     match sign {
-        Sign::Unsigned => bytes(l, b"DIVXU"),
-        Sign::Signed => bytes(l, b"DIVXS"),
+        Sign::Unsigned => named(l, 175),
+        Sign::Signed => named(l, 185),
+    }
+}
+
+fn take_at(take: Take) -> u16
+    ensures { λ p. ⌜ nameAt p ≡ takeName take ⌝ }
+{
+    match take {
+        Take::Btst => 195,
+        Take::Bor => 204,
+        Take::Bior => 215,
+        Take::Bxor => 225,
+        Take::Bixor => 236,
+        Take::Band => 245,
+        Take::Biand => 256,
+        Take::Bld => 264,
+        Take::Bild => 275,
     }
 }
 
 pub fn take_name(l: Line, take: Take) -> Line
     ensures { λ r. ⌜ Adds l (takeName take) r ⌝ }
 {
-    match take {
-        Take::Btst => bytes(l, b"BTST "),
-        Take::Bor => bytes(l, b"BOR "),
-        Take::Bior => bytes(l, b"BIOR "),
-        Take::Bxor => bytes(l, b"BXOR "),
-        Take::Bixor => bytes(l, b"BIXOR "),
-        Take::Band => bytes(l, b"BAND "),
-        Take::Biand => bytes(l, b"BIAND "),
-        Take::Bld => bytes(l, b"BLD "),
-        Take::Bild => bytes(l, b"BILD "),
+    named(l, take_at(take))
+}
+
+fn give_at(give: Give) -> u16
+    ensures { λ p. ⌜ nameAt p ≡ giveName give ⌝ }
+{
+    match give {
+        Give::Bset => 285,
+        Give::Bnot => 295,
+        Give::Bclr => 305,
+        Give::Bst => 314,
+        Give::Bist => 325,
     }
 }
 
 pub fn give_name(l: Line, give: Give) -> Line
     ensures { λ r. ⌜ Adds l (giveName give) r ⌝ }
 {
-    match give {
-        Give::Bset => bytes(l, b"BSET "),
-        Give::Bnot => bytes(l, b"BNOT "),
-        Give::Bclr => bytes(l, b"BCLR "),
-        Give::Bst => bytes(l, b"BST "),
-        Give::Bist => bytes(l, b"BIST "),
-    }
+    named(l, give_at(give))
 }
 
 pub fn adds_name(l: Line, way: Way) -> Line
     ensures { λ r. ⌜ Adds l (addsName way) r ⌝ }
 {
     match way {
-        Way::Up => bytes(l, b"ADDS "),
-        Way::Down => bytes(l, b"SUBS "),
+        Way::Up => named(l, 115),
+        Way::Down => named(l, 125),
     }
 }
 
@@ -198,55 +230,73 @@ pub fn decimal_name(l: Line, way: Way) -> Line
     ensures { λ r. ⌜ Adds l (decimalName way) r ⌝ }
 {
     match way {
-        Way::Up => bytes(l, b"DAA "),
-        Way::Down => bytes(l, b"DAS "),
+        Way::Up => named(l, 134),
+        Way::Down => named(l, 144),
+    }
+}
+
+fn turn_at(turn: Turn) -> u16
+    ensures { λ p. ⌜ nameAt p ≡ turnName turn ⌝ }
+{
+    match turn {
+        Turn::Shll => 334,
+        Turn::Shlr => 344,
+        Turn::Rotxl => 355,
+        Turn::Rotxr => 365,
+        Turn::Shal => 374,
+        Turn::Shar => 384,
+        Turn::Rotl => 394,
+        Turn::Rotr => 404,
     }
 }
 
 pub fn turn_name(l: Line, turn: Turn) -> Line
     ensures { λ r. ⌜ Adds l (turnName turn) r ⌝ }
 {
-    match turn {
-        Turn::Shll => bytes(l, b"SHLL"),
-        Turn::Shlr => bytes(l, b"SHLR"),
-        Turn::Rotxl => bytes(l, b"ROTXL"),
-        Turn::Rotxr => bytes(l, b"ROTXR"),
-        Turn::Shal => bytes(l, b"SHAL"),
-        Turn::Shar => bytes(l, b"SHAR"),
-        Turn::Rotl => bytes(l, b"ROTL"),
-        Turn::Rotr => bytes(l, b"ROTR"),
+    named(l, turn_at(turn))
+}
+
+fn single_at(single: Single) -> u16
+    ensures { λ p. ⌜ nameAt p ≡ singleName single ⌝ }
+{
+    match single {
+        Single::Not => 413,
+        Single::Neg => 423,
+        Single::Extu => 434,
+        Single::Exts => 444,
     }
 }
 
 pub fn single_name(l: Line, single: Single) -> Line
     ensures { λ r. ⌜ Adds l (singleName single) r ⌝ }
 {
-    match single {
-        Single::Not => bytes(l, b"NOT"),
-        Single::Neg => bytes(l, b"NEG"),
-        Single::Extu => bytes(l, b"EXTU"),
-        Single::Exts => bytes(l, b"EXTS"),
+    named(l, single_at(single))
+}
+
+fn change_at(change: Change) -> u16
+    ensures { λ p. ⌜ nameAt p ≡ changeName change ⌝ }
+{
+    match change {
+        Change::Orc => 454,
+        Change::Xorc => 465,
+        Change::Andc => 475,
+        Change::Ldc => 486,
     }
 }
 
 pub fn change_name(l: Line, change: Change) -> Line
     ensures { λ r. ⌜ Adds l (changeName change) r ⌝ }
 {
-    match change {
-        Change::Orc => bytes(l, b"ORC "),
-        Change::Xorc => bytes(l, b"XORC "),
-        Change::Andc => bytes(l, b"ANDC "),
-        Change::Ldc => bytes(l, b"LDC.B "),
-    }
+    named(l, change_at(change))
 }
 
 pub fn by(l: Line, by: By) -> Line
     ensures { λ r. ⌜ Adds l (byOf by) r ⌝ }
 {
     match by {
-        By::One => bytes(l, b"#1,"),
-        By::Two => bytes(l, b"#2,"),
-        By::Four => bytes(l, b"#4,"),
+        By::One => named(l, 543),
+        By::Two => named(l, 553),
+        By::Four => named(l, 563),
     }
 }
 

@@ -16,6 +16,7 @@ use codes::Spot;
 use codes::Target;
 use text::Line;
 use text::bytes;
+use text::put;
 
 fn hex_by(l: Line, w: Width, x: u32) -> Line
     ensures { λ r. ⌜ Adds l (hexBy w x) r ⌝ }
@@ -48,7 +49,7 @@ pub fn count(l: Line, w: Width, by: By) -> Line
     ensures { λ r. ⌜ Adds l (countOf w by) r ⌝ }
 {
     match w {
-        Width::Byte => bytes(l, b""),
+        Width::Byte => l,
         Width::Word => names::by(l, by),
         Width::Long => names::by(l, by),
     }
@@ -61,18 +62,18 @@ fn address(l: Line, a: u32) -> Line
     text::hex6(b, true, a)
 }
 
-fn at_reg(l: Line, e: u8) -> Line
+fn at_reg(mut l: Line, e: u8) -> Line
     ensures { λ r. ⌜ Adds l (atReg e) r ⌝ }
 {
-    let a = bytes(l, b"@");
-    names::long_reg(a, e)
+    l = put(l, b'@');
+    names::long_reg(l, e)
 }
 
-fn up_from(l: Line, e: u8) -> Line
+fn up_from(mut l: Line, e: u8) -> Line
     ensures { λ r. ⌜ Adds l (upFrom e) r ⌝ }
 {
-    let a = at_reg(l, e);
-    bytes(a, b"+")
+    l = at_reg(l, e);
+    put(l, b'+')
 }
 
 fn down_to(l: Line, e: u8) -> Line
@@ -91,14 +92,14 @@ fn step(l: Line, dir: Dir, e: u8) -> Line
     }
 }
 
-fn disp(l: Line, e: u8, d: u16) -> Line
+fn disp(mut l: Line, e: u8, d: u16) -> Line
     ensures { λ r. ⌜ Adds l (dispOf e d) r ⌝ }
 {
-    let a = bytes(l, b"@(");
-    let b = text::signed(a, d);
-    let c = bytes(b, b":16,");
-    let f = names::long_reg(c, e);
-    bytes(f, b")")
+    l = bytes(l, b"@(");
+    l = text::signed(l, d);
+    l = bytes(l, b":16,");
+    l = names::long_reg(l, e);
+    put(l, b')')
 }
 
 // aa:16 with its sign extended to 24 bits.
@@ -109,13 +110,13 @@ fn extend(a: u16) -> u32
     if a < 0x8000 { x } else { 0xFF0000 + x }
 }
 
-fn abs8(l: Line, a: u8) -> Line
+fn abs8(mut l: Line, a: u8) -> Line
     ensures { λ r. ⌜ Adds l (abs8Of a) r ⌝ }
 {
-    let b = bytes(l, b"@");
+    l = put(l, b'@');
     let x = a as u32;
-    let c = address(b, 0xFFFF00 + x);
-    bytes(c, b":8")
+    l = address(l, 0xFFFF00 + x);
+    bytes(l, b":8")
 }
 
 fn abs16(l: Line, a: u16) -> Line
@@ -125,20 +126,20 @@ fn abs16(l: Line, a: u16) -> Line
     abs16_at(l, x)
 }
 
-fn abs16_at(l: Line, a: u32) -> Line
+fn abs16_at(mut l: Line, a: u32) -> Line
     ensures { λ r. ⌜ Adds l (abs16Of a) r ⌝ }
 {
-    let b = bytes(l, b"@");
-    let c = address(b, a);
-    bytes(c, b":16")
+    l = put(l, b'@');
+    l = address(l, a);
+    bytes(l, b":16")
 }
 
-fn abs24(l: Line, a: u32) -> Line
+fn abs24(mut l: Line, a: u32) -> Line
     ensures { λ r. ⌜ Adds l (abs24Of a) r ⌝ }
 {
-    let b = bytes(l, b"@");
-    let c = address(b, a);
-    bytes(c, b":24")
+    l = put(l, b'@');
+    l = address(l, a);
+    bytes(l, b":24")
 }
 
 // An operand in memory.
@@ -155,11 +156,11 @@ pub fn place(l: Line, dir: Dir, p: Place) -> Line
     }
 }
 
-fn numbered(l: Line, n: u8) -> Line
+fn numbered(mut l: Line, n: u8) -> Line
     ensures { λ r. ⌜ Adds l (numberedOf n) r ⌝ }
 {
-    let a = bytes(l, b"#");
-    names::which(a, n)
+    l = put(l, b'#');
+    names::which(l, n)
 }
 
 // A bit's number.
@@ -187,8 +188,8 @@ fn reach_mark(l: Line, reach: Reach) -> Line
     ensures { λ r. ⌜ Adds l (reachMark reach) r ⌝ }
 {
     match reach {
-        Reach::Near(_) => bytes(l, b":8"),
-        Reach::Far(_) => bytes(l, b":16"),
+        Reach::Near(_) => names::named(l, 572),
+        Reach::Far(_) => names::named(l, 583),
     }
 }
 
@@ -207,12 +208,12 @@ pub fn reach(l: Line, next: u32, by: Reach) -> Line
     reach_at(l, to, by)
 }
 
-fn vector(l: Line, a: u8) -> Line
+fn vector(mut l: Line, a: u8) -> Line
     ensures { λ r. ⌜ Adds l (vectorOf a) r ⌝ }
 {
-    let b = bytes(l, b"@@H'");
-    let c = text::hex2(b, true, a as u32);
-    bytes(c, b":8")
+    l = bytes(l, b"@@H'");
+    l = text::hex2(l, true, a as u32);
+    bytes(l, b":8")
 }
 
 // Where JMP and JSR go.

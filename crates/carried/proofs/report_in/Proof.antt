@@ -7,4 +7,4 @@ pub report-in-spec : {M : Type 1} → statement M
 unfolding reportOf
 report-in-spec =
     tie.close
-    (tie.spec (λ c κs. search needs) (λ c κs. search needs) (λ c κs. search needs) (λ c κs. search needs) (λ c κs. search needs) (λ c κs. search needs) (λ c κs. search needs) (λ c κs. search needs) (λ c. cc))
+    (tie.spec (λ c κs. search needs) (λ c κs. search needs) (λ c κs. search needs) (λ c κs. search needs) (λ c κs. search needs) (λ c κs. search needs) (λ c κs. search needs) (λ c κs. search needs) (λ c. simp (c .report-at .ensures, c .before .number-at5 .ensures, c .before .before .refusal-at .ensures, c .before .before .before .number-at4 .ensures, c .before .before .before .before .number-at3 .ensures, c .before .before .before .before .before .number-at2 .ensures, c .before .before .before .before .before .before .field-at .ensures, c .before .before .before .before .before .before .before .number-at .ensures)))

@@ -8,4 +8,4 @@ unfolding eightOf
 put-kept-spec =
     tie.close
     (tie.spec (λ c κs. search needs) (λ c κs. search needs) (λ c κs. search needs) (λ c κs. search needs)
-    (λ c. search needs) (λ c. cc))
+    (λ c. search needs) (λ c. simp (c .before .before .put-upper .ensures, c .before .before .before .before .before .before .put-lower .ensures, c .before .before .before .before .before .before .before .before .before .before .put-wide .ensures, c .before .before .before .before .before .before .before .before .before .before .before .before .before .before .put-six-wide .ensures)))

@@ -8,4 +8,4 @@ unfolding tenOf
 put-registers-spec =
     tie.close
     (tie.spec (λ c κs. search needs) (λ c κs. search needs) (λ c κs. search needs) (λ c κs. search needs)
-    (λ c. search needs) (λ c κs. search needs) (λ c. search needs) (λ c. cc))
+    (λ c. search needs) (λ c κs. search needs) (λ c. search needs) (λ c. simp (c .before .before .put2 .ensures, c .before .before .before .byte .ensures, c .before .before .before .before .before .before .before .put .ensures, c .before .before .before .before .before .before .before .before .before .before .before .put-high .ensures, c .before .before .before .before .before .before .before .before .before .before .before .before .before .before .before .put-low .ensures)))

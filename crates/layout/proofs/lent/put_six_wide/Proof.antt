@@ -5,4 +5,4 @@ use Rattle.layout.proofs.lent.put_six_wide.Tie as tie
 pub put-six-wide-spec : {M : Type 1} → statement M
 put-six-wide-spec =
     tie.close
-    (tie.spec (λ c κs. search needs) (λ c κs. search needs) (λ c κs. search needs) (λ c. search needs) (λ c. cc))
+    (tie.spec (λ c κs. search needs) (λ c κs. search needs) (λ c κs. search needs) (λ c. search needs) (λ c. simp (c .before .before .put-wide2 .ensures, c .before .before .before .before .before .before .put-wide .ensures, c .before .before .before .before .before .before .before .before .before .before .put-four-wide .ensures)))

@@ -8,31 +8,34 @@ pub read-row-spec : {M : Type 1} → statement M
 unfolding readRow
 read-row-spec =
     tie.close
-    (tie.spec (λ c κs. search needs) (λ c κs. search needs) (λ c κs. search needs) (λ c κs. search needs) (λ c κs. search needs)
-    (λ c κs. search needs) (λ c κs. search needs) (λ c κs. search needs) (λ c κs. search needs) (λ c κs. search needs)
-    (λ c κs. search needs) (λ c κs. search needs) (λ c κs. search needs) (λ c κs. search needs) (λ c κs. search needs)
-    (λ c κs. search needs) (λ c κs. search needs) (λ c κs. search needs) (λ c κs. search needs) (λ c κs. search needs)
-    (λ c κs. search needs) (λ c κs. search needs) (λ c κs. search needs) (λ c κs. search needs) (λ c κs. search needs)
+    (tie.spec (λ c κs. search needs) (λ c κs. search needs) (λ c κs. search needs) (λ c κs. search needs)
+    (λ c κs. search needs) (λ c κs. search needs) (λ c κs. search needs) (λ c κs. search needs)
+    (λ c κs. search needs) (λ c κs. search needs) (λ c κs. search needs) (λ c κs. search needs)
+    (λ c κs. search needs) (λ c κs. search needs) (λ c κs. search needs) (λ c κs. search needs)
+    (λ c κs. search needs) (λ c κs. search needs) (λ c κs. search needs) (λ c κs. search needs)
+    (λ c κs. search needs) (λ c κs. search needs) (λ c κs. search needs) (λ c κs. search needs)
+    (λ c κs. search needs) (λ c κs. search needs) (λ c κs. search needs) (λ c κs. search needs)
+    (λ c κs. search needs) (λ c κs. search needs)
     (λ c. rw (c .match .keys1))
-    (λ c. simp (c .match .keys2, c .before .low8 .ensures))
-    (λ c. simp (c .match .keys3, c .before .low8 .ensures))
-    (λ c. simp (c .before .before .match .keys4, c .low82 .ensures, c .before .change-at .ensures))
-    (λ c. simp (c .before .before .match .keys5, c .source-at .ensures, c .before .op-at .ensures, c .before .before .before .low8 .ensures, c .before .before .before .before .before .before .before .before .before .before .width-at .ensures))
-    (λ c. simp (c .match .keys6, c .before .low8 .ensures, c .before .before .before .before .before .before .by-at .ensures, c .before .before .before .before .before .before .before .way-at .ensures, c .before .before .before .before .before .before .before .before .width-at .ensures))
-    (λ c. simp (c .match .keys7, c .before .low8 .ensures, c .before .before .before .before .before .before .by-at .ensures, c .before .before .before .before .before .before .before .way-at .ensures))
-    (λ c. simp (c .match .keys8, c .before .low8 .ensures, c .before .before .before .before .before .before .before .way-at .ensures))
-    (λ c. simp (c .before .match .keys9, c .turn-at .ensures, c .before .before .low8 .ensures, c .before .before .before .before .before .before .before .before .before .width-at .ensures))
-    (λ c. simp (c .before .match .keys10, c .single-at .ensures, c .before .before .low8 .ensures, c .before .before .before .before .before .before .before .before .before .width-at .ensures))
-    (λ c. simp (c .before .before .match .keys11, c .place-at .ensures, c .before .dir-at .ensures, c .before .before .before .low8 .ensures, c .before .before .before .before .before .before .before .before .before .before .width-at .ensures))
-    (λ c. simp (c .before .match .keys12, c .low83 .ensures, c .before .before .before .before .before .before .reach-at .ensures))
-    (λ c. simp (c .match .keys13, c .before .before .before .before .target-at .ensures))
-    (λ c. simp (c .match .keys14, c .before .before .before .before .before .reach-at .ensures))
-    (λ c. simp (c .match .keys15, c .before .before .before .before .target-at .ensures))
+    (λ c. rw (c .match .keys2) (simp (c .before .low8 .ensures)))
+    (λ c. rw (c .match .keys3) (simp (c .before .low8 .ensures)))
+    (λ c. rw (c .before .before .match .keys4) (simp (c .low82 .ensures, c .before .change-at .ensures)))
+    (λ c. rw (c .before .before .match .keys5) (simp (c .source-at .ensures, c .before .op-at .ensures, c .before .before .before .low8 .ensures, c .before .before .before .before .before .width-at .ensures)))
+    (λ c. rw (c .before .match .keys6) (simp (c .by-at .ensures, c .before .before .low8 .ensures, c .before .before .before .way-at .ensures, c .before .before .before .before .width-at .ensures)))
+    (λ c. rw (c .before .match .keys7) (simp (c .by-at2 .ensures, c .before .before .low8 .ensures, c .before .before .before .way-at .ensures)))
+    (λ c. rw (c .match .keys8) (simp (c .before .low8 .ensures, c .before .before .way-at .ensures)))
+    (λ c. rw (c .before .match .keys9) (simp (c .turn-at .ensures, c .before .before .low8 .ensures, c .before .before .before .before .width-at .ensures)))
+    (λ c. rw (c .before .match .keys10) (simp (c .single-at .ensures, c .before .before .low8 .ensures, c .before .before .before .before .width-at .ensures)))
+    (λ c. rw (c .before .before .match .keys11) (simp (c .place-at .ensures, c .before .dir-at .ensures, c .before .before .before .low8 .ensures, c .before .before .before .before .before .width-at .ensures)))
+    (λ c. rw (c .before .before .match .keys12) (simp (c .reach-at .ensures, c .before .low83 .ensures)))
+    (λ c. rw (c .before .match .keys13) (simp (c .target-at .ensures)))
+    (λ c. rw (c .before .match .keys14) (simp (c .reach-at2 .ensures)))
+    (λ c. rw (c .before .match .keys15) (simp (c .target-at2 .ensures)))
     (λ c. rw (c .match .keys16))
-    (λ c. simp (c .before .before .before .match .keys17, c .low84 .ensures, c .before .half-at .ensures, c .before .before .sign-at .ensures, c .before .before .before .before .low8 .ensures))
-    (λ c. simp (c .before .before .before .match .keys18, c .low85 .ensures, c .before .half-at2 .ensures, c .before .before .sign-at2 .ensures, c .before .before .before .before .low8 .ensures))
-    (λ c. simp (c .before .match .keys19, c .take-at .ensures, c .before .before .before .spot-at .ensures, c .before .before .before .before .index-at .ensures))
-    (λ c. let r = c .before .match .rest in simp (
+    (λ c. rw (c .before .before .before .match .keys17) (simp (c .low84 .ensures, c .before .half-at .ensures, c .before .before .sign-at .ensures, c .before .before .before .before .low8 .ensures)))
+    (λ c. rw (c .before .before .before .match .keys18) (simp (c .low85 .ensures, c .before .half-at2 .ensures, c .before .before .sign-at2 .ensures, c .before .before .before .before .low8 .ensures)))
+    (λ c. rw (c .before .before .before .match .keys19) (simp (c .spot-at .ensures, c .before .index-at .ensures, c .before .before .take-at .ensures)))
+    (λ c. let r = c .before .before .before .match .rest in simp (
       ne-eqb _ _ (r .0 .0 .0 .0 .0 .0 .0 .0 .0 .0 .0 .0 .0 .0 .0 .0 .0 .0 .1),
       ne-eqb _ _ (r .0 .0 .0 .0 .0 .0 .0 .0 .0 .0 .0 .0 .0 .0 .0 .0 .0 .1),
       ne-eqb _ _ (r .0 .0 .0 .0 .0 .0 .0 .0 .0 .0 .0 .0 .0 .0 .0 .0 .1),
@@ -52,7 +55,7 @@ read-row-spec =
       ne-eqb _ _ (r .0 .0 .1),
       ne-eqb _ _ (r .0 .1),
       ne-eqb _ _ (r .1),
-      c .give-at .ensures,
-      c .before .before .before .spot-at .ensures,
-      c .before .before .before .before .index-at .ensures,
+      c .spot-at2 .ensures,
+      c .before .index-at2 .ensures,
+      c .before .before .give-at .ensures,
     )))

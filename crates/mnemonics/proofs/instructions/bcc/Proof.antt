@@ -6,5 +6,5 @@ use Rattle.mnemonics.proofs.instructions.bcc.Tie as tie
 pub bcc-spec : {M : Type 1} → statement M
 bcc-spec =
     tie.close
-    (tie.spec (λ c κs. search needs) (λ c. search needs) (λ c κs. search needs) (λ c κs. search needs)
-    (λ c. more (c .before .before .before .branch-name .ensures) (more (c .before .bytes .ensures) (c .reach .ensures))))
+    (tie.spec (λ c κs. search needs) (λ c κs. search needs) (λ c κs. search needs)
+    (λ c. more (c .before .before .branch-name .ensures) (more (c .before .put .ensures) (c .reach .ensures))))

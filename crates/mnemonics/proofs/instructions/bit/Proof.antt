@@ -6,5 +6,5 @@ use Rattle.mnemonics.proofs.instructions.bit.Tie as tie
 pub bit-spec : {M : Type 1} → statement M
 bit-spec =
     tie.close
-    (tie.spec (λ c κs. search needs) (λ c. search needs) (λ c κs. search needs) (λ c κs. search needs)
-    (λ c. more (c .before .before .before .index .ensures) (more (c .before .bytes .ensures) (c .spot .ensures))))
+    (tie.spec (λ c κs. search needs) (λ c κs. search needs) (λ c κs. search needs)
+    (λ c. more (c .before .before .index .ensures) (more (c .before .put .ensures) (c .spot .ensures))))

@@ -1,11 +1,13 @@
+use Rattle.mnemonics.specs.MirrorTable.{nameAt}
 use borrow.Author.Needs.{needs}
 use Rattle.mnemonics.proofs.instructions.instruction.Statement.{statement}
 use Rattle.mnemonics.proofs.instructions.instruction.Tie as tie
 
 pub instruction-spec : {M : Type 1} → statement M
+unfolding nameAt
 instruction-spec =
     tie.close
-    (tie.spec (λ c. search needs) (λ c. search needs) (λ c κs. search needs) (λ c. search needs)
+    (tie.spec (λ c. search needs) (λ c κs. search needs) (λ c. search needs)
     (λ c κs. search needs) (λ c. search needs) (λ c κs. search needs) (λ c. search needs)
     (λ c κs. search needs) (λ c. search needs) (λ c κs. search needs) (λ c. search needs) (λ c κs. search needs)
     (λ c. search needs) (λ c κs. search needs) (λ c. search needs) (λ c κs. search needs) (λ c. search needs)
@@ -13,8 +15,8 @@ instruction-spec =
     (λ c. search needs) (λ c κs. search needs) (λ c. search needs) (λ c κs. search needs) (λ c. search needs)
     (λ c κs. search needs) (λ c. search needs) (λ c κs. search needs) (λ c. search needs) (λ c κs. search needs)
     (λ c. search needs) (λ c κs. search needs) (λ c. search needs) (λ c κs. search needs) (λ c. search needs)
-    (λ c κs. search needs) (λ c. search needs) (λ c. search needs) (λ c κs. search needs)
-    (λ c. rw (c .before .before .enum-told .given .1) (c .bytes .ensures))
+    (λ c κs. search needs) (λ c. search needs) (λ c κs. search needs)
+    (λ c. rw (c .before .enum-told .given .1) (c .named .ensures))
     (λ c. rw (c .before .before .i .given .1) (c .stc .ensures))
     (λ c. rw (c .before .before .i2 .given .1) (c .ldc .ensures))
     (λ c. rw (c .before .before .i3 .given .1) (c .ccr .ensures))
@@ -33,4 +35,4 @@ instruction-spec =
     (λ c. rw (c .before .before .i16 .given .1) (c .jmp .ensures))
     (λ c. rw (c .before .before .i17 .given .1) (c .bsr .ensures))
     (λ c. rw (c .before .before .i18 .given .1) (c .jsr .ensures))
-    (λ c. rw (c .before .before .enum-told2 .given .1) (c .bytes2 .ensures)))
+    (λ c. rw (c .before .enum-told2 .given .1) (c .named2 .ensures)))

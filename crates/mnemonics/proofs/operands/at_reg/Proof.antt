@@ -6,5 +6,5 @@ use Rattle.mnemonics.proofs.operands.at_reg.Tie as tie
 pub at-reg-spec : {M : Type 1} → statement M
 at-reg-spec =
     tie.close
-    (tie.spec (λ c. search needs) (λ c κs. search needs) (λ c κs. search needs)
-    (λ c. more (c .before .bytes .ensures) (c .long-reg .ensures)))
+    (tie.spec (λ c κs. search needs) (λ c κs. search needs)
+    (λ c. more (c .before .put .ensures) (c .long-reg .ensures)))

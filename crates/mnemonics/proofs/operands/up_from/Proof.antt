@@ -6,5 +6,5 @@ use Rattle.mnemonics.proofs.operands.up_from.Tie as tie
 pub up-from-spec : {M : Type 1} → statement M
 up-from-spec =
     tie.close
-    (tie.spec (λ c κs. search needs) (λ c. search needs) (λ c κs. search needs)
-    (λ c. more (c .before .before .at-reg .ensures) (c .bytes .ensures)))
+    (tie.spec (λ c κs. search needs) (λ c κs. search needs)
+    (λ c. more (c .before .at-reg .ensures) (c .put .ensures)))
