@@ -349,16 +349,7 @@ pub fn states(i: Instruction) -> u32
     ensures { λ r. ⌜ r ≡ statesOf i ⌝ }
 {
     match i {
-        Instruction::Nop => 2,
-        Instruction::Stc(_) => 2,
-        Instruction::LdcReg(_) => 2,
-        Instruction::Ccr(_, _) => 2,
         Instruction::Alu(op, w, source, _) => alu_states(op, w, source),
-        Instruction::IncDec(_, _, _, _) => 2,
-        Instruction::AddsSubs(_, _, _) => 2,
-        Instruction::Decimal(_, _) => 2,
-        Instruction::Shift(_, _, _) => 2,
-        Instruction::Unary(_, _, _) => 2,
         Instruction::Multiply(sign, h, _, _) => product_states(sign, h),
         Instruction::Divide(sign, h, _, _) => product_states(sign, h),
         Instruction::Takes(_, _, spot) => read_bit_states(spot),
@@ -369,5 +360,6 @@ pub fn states(i: Instruction) -> u32
         Instruction::Bsr(reach) => bsr_states(reach),
         Instruction::Jsr(target) => jsr_states(target),
         Instruction::Rts => 10,
+        _ => 2,
     }
 }

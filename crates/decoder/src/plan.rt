@@ -1,5 +1,6 @@
 // The forms that a word of a code can have: a whole instruction, one that lacks its last bytes, or nothing.
 ghost use mathlib.Core.Path.{_≡_};
+ghost use Rattle.decoder.specs.Names.{Whole, Takes, Gives, Numbered};
 ghost use Rattle.decoder.specs.MirrorWords.{exactly, below, held, nopOf, stcOf, ldcOf, ccrOf, counted, stepped, turned, singleOf, rtsOf, bcc16, bsr16, jmpReg, jsrReg, imm16, imm32, regReg, multiplied, divided, longReg, incOrLong, decimalOrLong, absoluteOf, moveOf, memoryOf, firstOp, nextOp, longMemory, longLogic, isEZero, eZero, takeByPart, takeNumbered, takeEither, giveByPart, giveNumbered, giveEither};
 use arith::Width;
 use codes::By;
@@ -52,14 +53,20 @@ pub enum Mode {
 pub fn exactly(x: u8, k: u8, p: Plan) -> Plan
     ensures { λ r. ⌜ r ≡ exactly x k p ⌝ }
 {
-    if x == k { p } else { Plan::Nothing }
+    if x == k {
+        return p;
+    }
+    Plan::Nothing
 }
 
 // Only where x is below k: a digit e is below 8, a byte 0r below 16.
 pub fn below(x: u8, k: u8, p: Plan) -> Plan
     ensures { λ r. ⌜ r ≡ below x k p ⌝ }
 {
-    if x < k { p } else { Plan::Nothing }
+    if x < k {
+        return p;
+    }
+    Plan::Nothing
 }
 
 pub fn is_e_zero(b: u8) -> bool
@@ -72,7 +79,10 @@ pub fn is_e_zero(b: u8) -> bool
 pub fn e_zero(b: u8, p: Plan) -> Plan
     ensures { λ r. ⌜ r ≡ eZero b p ⌝ }
 {
-    if is_e_zero(b) { p } else { Plan::Nothing }
+    if is_e_zero(b) {
+        return p;
+    }
+    Plan::Nothing
 }
 
 // A register digit: r of a byte or a word, e of a long.
@@ -143,14 +153,13 @@ pub fn long_reg(op: Op, b: u8) -> Plan
     ensures { λ r. ⌜ r ≡ longReg op b ⌝ }
 {
     if b < 128 {
-        Plan::Nothing
-    } else {
-        below(
-            b % 16,
-            8,
-            Plan::Whole(Instruction::Alu(op, Width::Long, Source::Reg(b / 16 - 8), b % 16)),
-        )
+        return Plan::Nothing;
     }
+    below(
+        b % 16,
+        8,
+        Plan::Whole(Instruction::Alu(op, Width::Long, Source::Reg(b / 16 - 8), b % 16)),
+    )
 }
 
 // 0A and 1A
@@ -158,10 +167,9 @@ pub fn inc_or_long(way: Way, op: Op, b: u8) -> Plan
     ensures { λ r. ⌜ r ≡ incOrLong way op b ⌝ }
 {
     if b < 16 {
-        Plan::Whole(Instruction::IncDec(way, Width::Byte, By::One, b))
-    } else {
-        long_reg(op, b)
+        return Plan::Whole(Instruction::IncDec(way, Width::Byte, By::One, b));
     }
+    long_reg(op, b)
 }
 
 // 0F and 1F
@@ -169,10 +177,9 @@ pub fn decimal_or_long(way: Way, op: Op, b: u8) -> Plan
     ensures { λ r. ⌜ r ≡ decimalOrLong way op b ⌝ }
 {
     if b < 16 {
-        Plan::Whole(Instruction::Decimal(way, b))
-    } else {
-        long_reg(op, b)
+        return Plan::Whole(Instruction::Decimal(way, b));
     }
+    long_reg(op, b)
 }
 
 pub fn counted(way: Way, w: Width, by: By, d: u8) -> Plan
@@ -258,10 +265,9 @@ pub fn memory(w: Width, mode: Mode, b: u8) -> Plan
     ensures { λ r. ⌜ r ≡ memoryOf w mode b ⌝ }
 {
     if b < 128 {
-        moves(w, mode, Dir::Load, b / 16, b % 16)
-    } else {
-        moves(w, mode, Dir::Store, b / 16 - 8, b % 16)
+        return moves(w, mode, Dir::Load, b / 16, b % 16);
     }
+    moves(w, mode, Dir::Store, b / 16 - 8, b % 16)
 }
 
 // The first digit of an immediate byte
@@ -359,22 +365,32 @@ pub fn give_numbered(give: Give, b: u8, spot: Spot) -> Plan
 }
 
 // or with 8 added to it, for the inverted instruction
+fn taken(take: Take, n: u8, spot: Spot) -> Plan
+    ensures { λ r. ⌜ r ≡ Whole (Takes take (Numbered n) spot) ⌝ }
+{
+    Plan::Whole(Instruction::Takes(take, Index::Numbered(n), spot))
+}
+
 pub fn take_either(take: Take, inverted: Take, b: u8, spot: Spot) -> Plan
     ensures { λ r. ⌜ r ≡ takeEither take inverted b spot ⌝ }
 {
     if b < 128 {
-        Plan::Whole(Instruction::Takes(take, Index::Numbered(b / 16), spot))
-    } else {
-        Plan::Whole(Instruction::Takes(inverted, Index::Numbered(b / 16 - 8), spot))
+        return taken(take, b / 16, spot);
     }
+    taken(inverted, b / 16 - 8, spot)
+}
+
+fn given(give: Give, n: u8, spot: Spot) -> Plan
+    ensures { λ r. ⌜ r ≡ Whole (Gives give (Numbered n) spot) ⌝ }
+{
+    Plan::Whole(Instruction::Gives(give, Index::Numbered(n), spot))
 }
 
 pub fn give_either(give: Give, inverted: Give, b: u8, spot: Spot) -> Plan
     ensures { λ r. ⌜ r ≡ giveEither give inverted b spot ⌝ }
 {
     if b < 128 {
-        Plan::Whole(Instruction::Gives(give, Index::Numbered(b / 16), spot))
-    } else {
-        Plan::Whole(Instruction::Gives(inverted, Index::Numbered(b / 16 - 8), spot))
+        return given(give, b / 16, spot);
     }
+    given(inverted, b / 16 - 8, spot)
 }

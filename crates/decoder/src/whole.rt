@@ -100,10 +100,9 @@ fn with_24(q: Rest, rest: &[u8], n: u8) -> Found
         return Found::Cut;
     }
     if rest[0] == 0 {
-        with_32(q, rest, n)
-    } else {
-        Found::Unlisted
+        return with_32(q, rest, n);
     }
+    Found::Unlisted
 }
 
 fn more(k: Tail, q: Rest, rest: &[u8], n: u8) -> Found
@@ -182,10 +181,9 @@ fn prefix(a: u8, b: u8) -> Found
         return prefix_01(b);
     }
     if crate::words::names_byte(a, b) {
-        Found::Cut
-    } else {
-        Found::Unlisted
+        return Found::Cut;
     }
+    Found::Unlisted
 }
 
 // Bytes that are fewer than their words: none, one, or two or three of a code of two words.
@@ -223,10 +221,9 @@ fn planned(s: &[u8]) -> Plan
 {
     let a = byte_at(s, 0);
     if two_words(a) {
-        crate::words::second_word(a, byte_at(s, 1), byte_at(s, 2), byte_at(s, 3))
-    } else {
-        crate::words::first_word(a, byte_at(s, 1))
+        return crate::words::second_word(a, byte_at(s, 1), byte_at(s, 2), byte_at(s, 3));
     }
+    crate::words::first_word(a, byte_at(s, 1))
 }
 
 // The words are planned before it is known that they are whole. So `first_word`, `second_word` and `finish` are each called

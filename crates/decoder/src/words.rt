@@ -337,10 +337,9 @@ fn named_spot(a: u8, b: u8) -> Spot
     ensures { λ r. ⌜ r ≡ namedSpot a b ⌝ }
 {
     if a < 0x7E {
-        Spot::AtEr(b / 16)
-    } else {
-        Spot::AtAbs(b)
+        return Spot::AtEr(b / 16);
     }
+    Spot::AtAbs(b)
 }
 
 // Behind 7C and 7E a bit is read, behind 7D and 7F it is written. The two tables are asked in one place for all four, where the

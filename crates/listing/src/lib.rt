@@ -85,16 +85,7 @@ fn found(k: Site, p: u32, i: Instruction, n: usize) -> Flow
 {
     let next = flow::next(p, n);
     match i {
-        Instruction::Nop => onward(next, 2),
-        Instruction::Stc(_) => onward(next, 2),
-        Instruction::LdcReg(_) => onward(next, 2),
-        Instruction::Ccr(_, _) => onward(next, 2),
         Instruction::Alu(op, w, s, _) => onward(next, codes::alu_states(op, w, s)),
-        Instruction::IncDec(_, _, _, _) => onward(next, 2),
-        Instruction::AddsSubs(_, _, _) => onward(next, 2),
-        Instruction::Decimal(_, _) => onward(next, 2),
-        Instruction::Shift(_, _, _) => onward(next, 2),
-        Instruction::Unary(_, _, _) => onward(next, 2),
         Instruction::Multiply(sign, h, _, _) => onward(next, codes::product_states(sign, h)),
         Instruction::Divide(sign, h, _, _) => onward(next, codes::product_states(sign, h)),
         Instruction::Takes(_, _, spot) => onward(next, timing::parts::read_bit(k, spot)),
@@ -108,6 +99,7 @@ fn found(k: Site, p: u32, i: Instruction, n: usize) -> Flow
         Instruction::Bsr(reach) => near_call(k, next, reach),
         Instruction::Jsr(to) => call(k, p, next, to),
         Instruction::Rts => returns(k),
+        _ => onward(next, 2),
     }
 }
 

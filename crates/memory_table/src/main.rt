@@ -226,14 +226,18 @@ fn small_boards() {
 }
 
 fn large_boards() {
-    let base = 0x100000;
     let code = [0u8; 524288];
     let long_code = [0u8; 524290];
     let data = [0u8; 65536];
     let long_data = [0u8; 65538];
-    try_board(base, &code, &data);
-    try_board(base, &long_code, &data);
-    try_board(base, &code, &long_data);
+    with_arrays(&code, &long_code, &data, &long_data);
+}
+
+fn with_arrays(code: &[u8; 524288], long_code: &[u8; 524290], data: &[u8; 65536], long_data: &[u8; 65538]) {
+    let base = 0x100000;
+    try_board(base, code, data);
+    try_board(base, long_code, data);
+    try_board(base, code, long_data);
 }
 
 // Working memory 001000 to 00100F.
@@ -334,11 +338,15 @@ fn wrong_sites(four: &[u8]) {
 fn sites_with_long_code() {
     let code = [0u8; 524288];
     let long_code = [0u8; 524290];
-    try_site(0x80000, 0x80000, 8, &code);
-    try_site(0x80000, 0x90000, 8, &code);
-    try_site(0x7FFFE, 0x80000, 8, &code);
-    try_site(0x100000, 0x100000, 8, &code);
-    try_site(0x100000, 0x100000, 8, &long_code);
+    long_sites(&code, &long_code);
+}
+
+fn long_sites(code: &[u8; 524288], long_code: &[u8; 524290]) {
+    try_site(0x80000, 0x80000, 8, code);
+    try_site(0x80000, 0x90000, 8, code);
+    try_site(0x7FFFE, 0x80000, 8, code);
+    try_site(0x100000, 0x100000, 8, code);
+    try_site(0x100000, 0x100000, 8, long_code);
 }
 
 fn main() {

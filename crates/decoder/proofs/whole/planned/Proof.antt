@@ -7,7 +7,7 @@ use Rattle.decoder.proofs.whole.planned.Tie as tie
 pub planned-spec : {M : Type 1} → statement M
 planned-spec =
     tie.close
-    (tie.spec (λ c κs. search needs) (λ c κs. search needs) (λ c κs. search needs) (λ c κs. search needs) (λ c κs. search needs) (λ c κs. search needs) (λ c κs. search needs) (λ c κs. search needs)
+    (tie.spec (λ c κs. search needs) (λ c κs. search needs) (λ c κs. search needs) (λ c κs. search needs) (λ c κs. search needs) (λ c κs. search needs)
     (λ c.
     let b = c .before .before .before .before in
     let a = b .before .before in
@@ -19,6 +19,7 @@ planned-spec =
       c .before .before .before .byte-at2 .ensures,
       a .byte-at .ensures,
     ))
+    (λ c κs. search needs) (λ c κs. search needs)
     (λ c.
     let b = c .before .before in
     let a = b .before .before in
