@@ -52,17 +52,10 @@ fn width(k: Kind) -> usize
     ensures { λ r. ⌜ (1 ≤ r) × (r ≤ 4) ⌝ }
 {
     match k {
-        Kind::AWord => 1,
-        Kind::PlainOption => 1,
-        Kind::RamOption => 3,
         Kind::PortOption => 4,
-        Kind::BudgetOption => 2,
-        Kind::StopOption => 2,
-        Kind::ErOption => 3,
-        Kind::RoutineOption => 1,
-        Kind::DeepOption => 1,
-        Kind::TraceOption => 1,
-        Kind::NoOption => 1,
+        Kind::RamOption | Kind::ErOption => 3,
+        Kind::BudgetOption | Kind::StopOption => 2,
+        _ => 1,
     }
 }
 

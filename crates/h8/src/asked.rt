@@ -4,9 +4,9 @@ use crate::ask::Request;
 use crate::fault;
 use crate::fault::Got;
 use asking::Kind;
-use lines::Given;
 use registers::Condition;
 use registers::Registers;
+use runlines::Given;
 use site::Area;
 
 // A stop address that PC never holds.

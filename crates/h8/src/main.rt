@@ -25,13 +25,10 @@ fn either(a: usize, b: usize) -> usize {
 // The first word that a use has no place for.
 fn surplus(q: Request, u: Use) -> usize {
     match u {
-        Use::ForFigure => q.extra,
-        Use::ForWay => either(q.fourth, q.extra),
-        Use::ForList => q.extra,
-        Use::ForRun => either(q.fourth, q.extra),
-        Use::ForReplay => q.extra,
+        Use::ForWay | Use::ForRun => either(q.fourth, q.extra),
         Use::ForHelp => either(q.second, q.extra),
         Use::NoUse => 0,
+        _ => q.extra,
     }
 }
 
@@ -39,26 +36,17 @@ fn surplus(q: Request, u: Use) -> usize {
 fn astray(q: Request, u: Use) -> usize {
     let i = either(either(q.budget, q.stop), either(q.routine, q.trace));
     match u {
-        Use::ForFigure => i,
-        Use::ForWay => i,
-        Use::ForList => i,
-        Use::ForRun => 0,
-        Use::ForReplay => i,
+        Use::ForRun | Use::NoUse => 0,
         Use::ForHelp => either(i, q.port),
-        Use::NoUse => 0,
+        _ => i,
     }
 }
 
 // The option of `h8 way` beside another use.
 fn not_deep(q: Request, u: Use) -> usize {
     match u {
-        Use::ForFigure => q.deep,
-        Use::ForWay => 0,
-        Use::ForList => q.deep,
-        Use::ForRun => q.deep,
-        Use::ForReplay => q.deep,
-        Use::ForHelp => q.deep,
-        Use::NoUse => 0,
+        Use::ForWay | Use::NoUse => 0,
+        _ => q.deep,
     }
 }
 
@@ -66,13 +54,8 @@ fn not_deep(q: Request, u: Use) -> usize {
 fn strayed(q: Request, u: Use) -> usize {
     let i = either(q.ram, q.er);
     match u {
-        Use::ForFigure => i,
-        Use::ForWay => i,
-        Use::ForList => i,
-        Use::ForRun => 0,
-        Use::ForReplay => 0,
-        Use::ForHelp => i,
-        Use::NoUse => 0,
+        Use::ForRun | Use::ForReplay | Use::NoUse => 0,
+        _ => i,
     }
 }
 
@@ -151,7 +134,7 @@ fn refused(plain: bool, k: Site, rom: &[u8], f: Refusal) {
         let area = k.area;
         show::write(lines::ports_wrong(text::blank(), rom, area, plain));
     } else {
-        show::write(lines::refused(text::blank(), rom, f, plain));
+        show::write(wording::parts::refused(text::blank(), rom, f, plain));
     }
 }
 
@@ -344,11 +327,8 @@ fn main() {
         return;
     }
     match u {
-        Use::ForFigure => with_room(q, u),
-        Use::ForWay => with_room(q, u),
-        Use::ForList => with_room(q, u),
-        Use::ForRun => run_room(q, u),
-        Use::ForReplay => run_room(q, u),
+        Use::ForFigure | Use::ForWay | Use::ForList => with_room(q, u),
+        Use::ForRun | Use::ForReplay => run_room(q, u),
         Use::ForHelp => help::show_help(),
         Use::NoUse => fault::wrong(
             q.plain,

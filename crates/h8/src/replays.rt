@@ -4,7 +4,6 @@ use crate::asked;
 use crate::fault;
 use crate::file;
 use crate::show;
-use lines::Given;
 use memory::Board;
 use registers::Registers;
 use replay::Field;
@@ -13,6 +12,7 @@ use replay::Stage;
 use replay::Standing;
 use run::Ending;
 use run::RunAnswer;
+use runlines::Given;
 use site::Site;
 
 // Where the replay stands, how many bytes it was fed, whether there is nothing more to read for it, and whether reading failed.
@@ -149,7 +149,7 @@ fn here(k: Standing, f: Field) -> u32 {
 }
 
 fn counts(k: Standing, first: &[u8], plain: bool) {
-    show::write(lines::replayed(text::blank(), first, k.steps, b", states ", k.states, plain));
+    show::write(runlines::replayed(text::blank(), first, k.steps, b", states ", k.states, plain));
 }
 
 fn registers(k: Standing, plain: bool) {
@@ -160,23 +160,23 @@ fn registers(k: Standing, plain: bool) {
         states: k.states,
         why: Ending::Spent,
     };
-    show::write(lines::registers(text::blank(), a, plain));
+    show::write(runlines::registers(text::blank(), a, plain));
 }
 
 fn differs(rom: &[u8], k: Standing, f: Field, rec: &[u8; 11], plain: bool) {
     let r = k.regs;
     let n = std::num::wrapping_add_u32(k.steps, 1);
-    show::write(lines::differs(text::blank(), n, f, here(k, f), recorded(rec, f), plain));
-    show::write(lines::there(text::blank(), rom, r.pc, plain));
+    show::write(runlines::differs(text::blank(), n, f, here(k, f), recorded(rec, f), plain));
+    show::write(runlines::there(text::blank(), rom, r.pc, plain));
     counts(k, b"before it: records ", plain);
     registers(k, plain);
 }
 
 fn halted(rom: &[u8], k: Standing, f: refusal::Refusal, g: Given, plain: bool) {
     if f.number() == 1 {
-        show::write(lines::wrong(text::blank(), g, f, plain));
+        show::write(runlines::wrong(text::blank(), g, f, plain));
     } else {
-        show::write(lines::stopped(text::blank(), rom, f, plain));
+        show::write(runlines::stopped(text::blank(), rom, f, plain));
         counts(k, b"before it: records ", plain);
         registers(k, plain);
     }

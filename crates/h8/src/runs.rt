@@ -2,9 +2,9 @@
 use crate::ask::Request;
 use crate::asked;
 use crate::show;
-use lines::Given;
 use memory::Board;
 use registers::Registers;
+use runlines::Given;
 use site::Site;
 
 fn board(g: Given) -> Board {
@@ -18,7 +18,7 @@ fn step_shown(b: Board, rom: &[u8], ram: &mut [u8], r: Registers, plain: bool) -
     let w = watch::single(b, rom, ram, r);
     let a = w.answer;
     let l = w.list;
-    show::write(lines::traced(rom, r.pc, a.states, l, plain));
+    show::write(runlines::traced(rom, r.pc, a.states, l, plain));
     a.regs
 }
 
@@ -35,7 +35,7 @@ fn trace(b: Board, rom: &[u8], ram: &mut [u8], start: Registers, steps: u32, pla
 // The trace has a working memory of its own, `again`: both begin as zeros. Where nothing ran the answer stands alone, since its first line says that.
 fn traced(q: Request, rom: &[u8], again: &mut [u8], g: Given, r: Registers, steps: u32) {
     if (q.trace != 0) & (0 < steps) {
-        show::write(lines::trace_heading(text::blank(), q.plain));
+        show::write(runlines::trace_heading(text::blank(), q.plain));
         trace(board(g), rom, again, r, steps, q.plain);
     }
 }
@@ -43,16 +43,16 @@ fn traced(q: Request, rom: &[u8], again: &mut [u8], g: Given, r: Registers, step
 fn go(q: Request, rom: &[u8], ram: &mut [u8], again: &mut [u8], g: Given, r: Registers) {
     let a = run::run(board(g), rom, ram, r, g.stop, g.budget);
     traced(q, rom, again, g, r, a.steps);
-    show::write(lines::ran(text::blank(), rom, g, a, q.plain));
-    show::write(lines::registers(text::blank(), a, q.plain));
+    show::write(runlines::ran(text::blank(), rom, g, a, q.plain));
+    show::write(runlines::registers(text::blank(), a, q.plain));
 }
 
 // To the return of the routine at the entry.
 fn go_out(q: Request, rom: &[u8], ram: &mut [u8], again: &mut [u8], g: Given, r: Registers) {
     let a = routine::routine(board(g), rom, ram, r, g.stop, g.budget);
     traced(q, rom, again, g, r, a.steps);
-    show::write(lines::ran_out(text::blank(), rom, g, a, q.plain));
-    show::write(lines::out_registers(text::blank(), a, q.plain));
+    show::write(runlines::ran_out(text::blank(), rom, g, a, q.plain));
+    show::write(runlines::out_registers(text::blank(), a, q.plain));
 }
 
 fn lent(q: Request, rom: &[u8], ram: &mut [u8], again: &mut [u8], g: Given, r: Registers) {

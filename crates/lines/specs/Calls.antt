@@ -12,8 +12,8 @@ use Rattle.site.specs.declared.Site.{Site}
 use Rattle.listing.specs.Listing.{flowAt}
 use Rattle.text.specs.Lines.{ascii}
 use Rattle.text.specs.Numbers.{placeOf, decimalOf}
-use Rattle.lines.specs.Parts.{numberLine, placeLine}
-use Rattle.lines.specs.Places.{padTo, lastNumber}
+use Rattle.wording.specs.Parts.{numberLine, placeLine, padTo}
+use Rattle.lines.specs.Places.{lastNumber}
 
 -- the routine that a call enters; 16777215, which is no place, where no call stands
 abbrev pub enteredBy : Flow → ℕ

@@ -9,7 +9,7 @@ use Rattle.text.specs.Lines.{ascii}
 use Rattle.text.specs.Numbers.{placeOf, decimalOf}
 use Rattle.lines.specs.declared.figures.Gap.{Gap}
 use Rattle.lines.specs.declared.figures.Gap.the-variants.{States, NoGap}
-use Rattle.lines.specs.Parts.{numberLine, refusedText}
+use Rattle.wording.specs.Parts.{numberLine, refusedText}
 
 abbrev pub longestWords : ℕ → ℕ → List ℕ
 longestWords entry n = ascii "the longest way from " ++ (placeOf entry ++ (ascii " takes " ++ (decimalOf n ++ ascii " states\n")))

@@ -1,10 +1,9 @@
 -- What `h8 list` and `h8 way` say of a place: its address, bytes, text and states, and last the total or the figure.
-use Prim.Native.Nat.{ℕ, _+_, _-_, _%_, _^_}
-use Prim.Native.Char.{code}
+use Prim.Native.Nat.{ℕ, _+_, _%_, _^_}
 use mathlib.Core.Bool.{Bool, cond}
 use mathlib.Core.List.{List, [], _++_}
 use lib.Dec.{eqb}
-use lib.ListN.{length, replicate}
+use lib.ListN.{length}
 use Rattle.codes.specs.declared.Decoded.{Decoded}
 use Rattle.codes.specs.declared.Decoded.the-variants.{Code, NoCode}
 use Rattle.paths.specs.declared.Reckoned.{Reckoned}
@@ -15,7 +14,7 @@ use Rattle.listing.specs.Listing.{decodedAt}
 use Rattle.text.specs.Lines.{ascii}
 use Rattle.text.specs.Numbers.{placeOf, decimalOf}
 use Rattle.wording.specs.Standing.{bytesAt, foundText}
-use Rattle.lines.specs.Parts.{numberLine, placeLine}
+use Rattle.wording.specs.Parts.{numberLine, placeLine, padTo}
 
 -- how many bytes stand at a place: a code has at most eight; an unknown word and one cut short are shown with two
 abbrev pub lengthOf : Decoded → ℕ
@@ -34,10 +33,6 @@ statesWords k (NoCode f) = ascii "-"
 abbrev pub statesPlain : Site → Decoded → List ℕ
 statesPlain k (Code i n) = numberLine (ascii "states") (mostOf k i)
 statesPlain k (NoCode f) = []
-
--- a text with spaces up to the column k
-abbrev pub padTo : ℕ → List ℕ → List ℕ
-padTo k s = s ++ replicate (k - length s) (code " ")
 
 abbrev pub columnsText : Site → List ℕ → ℕ → Decoded → List ℕ
 columnsText k rom p d =

@@ -1,19 +1,13 @@
--- What is wrong with the ports that were asked for, in words (document 02, W5). The width of their bus is looked at with the other arguments.
-use Prim.Native.Nat.{ℕ, _%_}
+-- What is wrong with the ports that a figure was asked for with, in words (document 02, W5).
+use Prim.Native.Nat.{ℕ}
 use mathlib.Core.Bool.{Bool, cond}
 use mathlib.Core.List.{List, _++_}
-use lib.Dec.{ltb, eqb}
+use lib.Dec.{ltb}
 use Rattle.refusal.specs.declared.Refusal.the-variants.{BadBoard}
 use Rattle.site.specs.declared.Area.{Area}
 use Rattle.text.specs.Lines.{ascii}
-use Rattle.lines.specs.Parts.{beforeText}
-
--- which number of --port is wrong; if none is by itself, where they lie
-unfoldable pub areaFault : Area → List ℕ → List ℕ
-areaFault a otherwise =
-    cond (eqb (a .base % 2) 1) (ascii "1: BASE of --port is odd")
-    (cond (eqb (a .end % 2) 1) (ascii "1: END of --port is odd")
-    (cond (ltb (a .end) (a .base)) (ascii "1: BASE of --port is above END") otherwise))
+use Rattle.wording.specs.Parts.{beforeText}
+use Rattle.wording.specs.Ports.{areaFault}
 
 -- no right board with a ROM of that length has these ports
 unfoldable pub carriedFault : ℕ → Area → List ℕ

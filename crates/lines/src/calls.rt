@@ -3,11 +3,11 @@ ghost use mathlib.Core.Path.{_≡_};
 ghost use Rattle.listing.specs.Listing.{flowAt};
 ghost use Rattle.text.specs.Lines.{none, Adds};
 ghost use Rattle.lines.specs.Calls.{enteredBy, insideOf, withCall, insideColumns, insideNamed, insideText, lineText, callText, levelText};
-use crate::parts;
 use crate::places;
 use paths::Flow;
 use site::Site;
 use text::Line;
+use wording::parts;
 
 const NONE: u32 = 16777215;
 
@@ -52,12 +52,12 @@ pub fn with_call(k: Site, rom: &[u8], table: &[u64], p: u32, before: u64) -> u64
 fn inside_columns(t: u32, n: u64) -> Line
     ensures { λ r. ⌜ Adds none (insideColumns t n) r ⌝ }
 {
-    let a = text::bytes(
-        text::blank(),
-        b"                            the routine at ",
-    );
-    let b = text::pad(text::place(a, t), 58);
-    text::pad(text::decimal(b, n), 66)
+    let mut l = text::blank();
+    l = text::bytes(l, b"                            the routine at ");
+    l = text::place(l, t);
+    l = text::pad(l, 58);
+    l = text::decimal(l, n);
+    text::pad(l, 66)
 }
 
 fn inside_named(l: Line, t: u32, n: u64) -> Line
@@ -91,7 +91,7 @@ pub fn on_call(k: Site, rom: &[u8], table: &[u64], p: u32, total: u64, plain: bo
     let t = called(k, rom, p);
     let n = inside(rom, table, t);
     if t == NONE {
-        text::bytes(text::blank(), b"")
+        text::blank()
     } else {
         line(t, n, total, plain)
     }

@@ -2,23 +2,23 @@
 ghost use mathlib.Core.Path.{_≡_};
 ghost use Rattle.text.specs.Lines.{Adds};
 ghost use Rattle.lines.specs.Figures.{longestWords, longestText, gapLine, gapWords, fitsPlain, gapPlain, againstText, gapText, measuredText, figureText};
-use crate::parts;
 use figure::Verdict;
 use text::Line;
+use wording::parts;
 
 pub enum Gap {
     States(u64),
     NoGap,
 }
 
-fn longest_words(l: Line, entry: u32, n: u64) -> Line
+fn longest_words(mut l: Line, entry: u32, n: u64) -> Line
     ensures { λ r. ⌜ Adds l (longestWords entry n) r ⌝ }
 {
-    let a = text::bytes(l, b"the longest way from ");
-    let b = text::place(a, entry);
-    let c = text::bytes(b, b" takes ");
-    let d = text::decimal(c, n);
-    text::bytes(d, b" states\n")
+    l = text::bytes(l, b"the longest way from ");
+    l = text::place(l, entry);
+    l = text::bytes(l, b" takes ");
+    l = text::decimal(l, n);
+    text::bytes(l, b" states\n")
 }
 
 // The figure of an entry; the last line of a way, too.
@@ -33,14 +33,14 @@ pub fn longest(l: Line, entry: u32, n: u64, plain: bool) -> Line
 }
 
 // A gap and how much of it is left or missing.
-fn gap_line(l: Line, first: &[u8], gap: u64, rest: u64, last: &[u8]) -> Line
+fn gap_line(mut l: Line, first: &[u8], gap: u64, rest: u64, last: &[u8]) -> Line
     ensures { λ r. ⌜ Adds l (gapLine (now (first .entry)) gap rest (now (last .entry))) r ⌝ }
 {
-    let a = text::bytes(l, first);
-    let b = text::decimal(a, gap);
-    let c = text::bytes(b, b" states: ");
-    let d = text::decimal(c, rest);
-    text::bytes(d, last)
+    l = text::bytes(l, first);
+    l = text::decimal(l, gap);
+    l = text::bytes(l, b" states: ");
+    l = text::decimal(l, rest);
+    text::bytes(l, last)
 }
 
 fn gap_words(l: Line, n: u64, gap: u64) -> Line
@@ -93,7 +93,7 @@ fn in_gap(l: Line, n: u64, gap: Gap, plain: bool) -> Line
 {
     match gap {
         Gap::States(g) => against(l, n, g, plain),
-        Gap::NoGap => text::bytes(l, b""),
+        Gap::NoGap => l,
     }
 }
 

@@ -1,13 +1,8 @@
-// The lines that the tool prints, in words or, with `plain`, as one name and value a line. Each function promises the exact text.
+// The lines that the tool prints for a figure, a way and a listing, in words or, with `plain`, as one name and value a line. Each function promises the exact text.
 mod calls;
 mod figures;
-mod parts;
 mod places;
 mod ports;
-mod replays;
-mod routines;
-mod runs;
-mod traces;
 
 pub use calls::called;
 pub use calls::level;
@@ -16,7 +11,6 @@ pub use calls::with_call;
 pub use figures::Gap;
 pub use figures::figure;
 pub use figures::longest;
-pub use parts::refused;
 pub use places::length_at;
 pub use places::list_heading;
 pub use places::listed;
@@ -24,15 +18,3 @@ pub use places::on_way;
 pub use places::total;
 pub use places::way_heading;
 pub use ports::ports_wrong;
-pub use replays::differs;
-pub use replays::replayed;
-pub use replays::stopped;
-pub use replays::there;
-pub use routines::out_registers;
-pub use routines::ran_out;
-pub use runs::Given;
-pub use runs::ran;
-pub use runs::registers;
-pub use runs::wrong;
-pub use traces::trace_heading;
-pub use traces::traced;

@@ -4,11 +4,11 @@ ghost use lib.ListN.{length};
 ghost use Rattle.listing.specs.Listing.{decodedAt};
 ghost use Rattle.text.specs.Lines.{none, Adds};
 ghost use Rattle.lines.specs.Places.{lengthOf, countOf, statesWords, statesPlain, columnsText, namedText, standingText, lastNumber, lowestText, rowText, listedText, onWayText, totalOf, listHeading, wayHeading};
-use crate::parts;
 use codes::Decoded;
 use paths::Reckoned;
 use site::Site;
 use text::Line;
+use wording::parts;
 
 const NONE: u64 = 16777215;
 
@@ -30,22 +30,11 @@ fn count(k: Site, d: Decoded) -> u32
     }
 }
 
-pub fn decoded(rom: &[u8], p: u32) -> Decoded
-    ensures { λ r. ⌜ r ≡ decodedAt (now (rom .entry)) p ⌝ }
-{
-    let at = p as usize;
-    if at < rom.len() {
-        decoder::decode_at(&rom[at..], p)
-    } else {
-        decoder::decode_at(b"", p)
-    }
-}
-
 // How many bytes stand at the place p.
 pub fn length_at(rom: &[u8], p: u32) -> u8
     ensures { λ r. ⌜ r ≡ lengthOf (decodedAt (now (rom .entry)) p) ⌝ }
 {
-    let d = decoded(rom, p);
+    let d = wording::decoded(rom, p);
     length(d)
 }
 
@@ -53,14 +42,15 @@ pub fn length_at(rom: &[u8], p: u32) -> u8
 pub fn total(k: Site, rom: &[u8], p: u32, before: u64) -> u64
     ensures { λ r. ⌜ r ≡ totalOf k (now (rom .entry)) p before ⌝ }
 {
-    let d = decoded(rom, p);
+    let d = wording::decoded(rom, p);
     let n = count(k, d);
     std::num::wrapping_add_u64(before, n as u64)
 }
 
-fn states_words(l: Line, k: Site, d: Decoded) -> Line
-    ensures { λ r. ⌜ Adds l (statesWords k d) r ⌝ }
+fn states_words(l: Line, k: Site, rom: &[u8], p: u32) -> Line
+    ensures { λ r. ⌜ Adds l (statesWords k (decodedAt (now (rom .entry)) p)) r ⌝ }
 {
+    let d = wording::decoded(rom, p);
     match d {
         Decoded::Code(i, _) => {
             let n = timing::parts::counted(k, i);
@@ -70,46 +60,55 @@ fn states_words(l: Line, k: Site, d: Decoded) -> Line
     }
 }
 
-fn states_plain(l: Line, k: Site, d: Decoded) -> Line
-    ensures { λ r. ⌜ Adds l (statesPlain k d) r ⌝ }
+fn states_plain(l: Line, k: Site, rom: &[u8], p: u32) -> Line
+    ensures { λ r. ⌜ Adds l (statesPlain k (decodedAt (now (rom .entry)) p)) r ⌝ }
 {
+    let d = wording::decoded(rom, p);
     match d {
         Decoded::Code(i, _) => {
             let n = timing::parts::counted(k, i);
             parts::number(l, b"states", n as u64)
         }
-        Decoded::NoCode(_) => text::bytes(l, b""),
+        Decoded::NoCode(_) => l,
     }
 }
 
-fn columns(k: Site, rom: &[u8], p: u32, d: Decoded) -> Line
-    ensures { λ r. ⌜ Adds none (columnsText k (now (rom .entry)) p d) r ⌝ }
+fn columns(k: Site, rom: &[u8], p: u32) -> Line
+    ensures { λ r. ⌜ Adds none (columnsText k (now (rom .entry)) p (decodedAt (now (rom .entry)) p)) r ⌝ }
 {
-    let a = text::pad(text::place(text::blank(), p), 10);
-    let n = length(d);
-    let b = text::pad(wording::bytes(a, rom, p, n), 28);
-    let c = text::pad(wording::found(b, p, d), 58);
-    text::pad(states_words(c, k, d), 66)
+    let n = length_at(rom, p);
+    let mut l = text::blank();
+    l = text::place(l, p);
+    l = text::pad(l, 10);
+    l = wording::bytes(l, rom, p, n);
+    l = text::pad(l, 28);
+    l = wording::found_at(l, rom, p);
+    l = text::pad(l, 58);
+    l = states_words(l, k, rom, p);
+    text::pad(l, 66)
 }
 
-fn named(l: Line, k: Site, rom: &[u8], p: u32, d: Decoded) -> Line
-    ensures { λ r. ⌜ Adds l (namedText k (now (rom .entry)) p d) r ⌝ }
+fn named(mut l: Line, k: Site, rom: &[u8], p: u32) -> Line
+    ensures { λ r. ⌜ Adds l (namedText k (now (rom .entry)) p (decodedAt (now (rom .entry)) p)) r ⌝ }
 {
-    let a = parts::place(l, b"place", p);
-    let n = length(d);
-    let b = wording::bytes(text::bytes(a, b"bytes "), rom, p, n);
-    let c = wording::found(text::bytes(b, b"\ntext "), p, d);
-    states_plain(text::bytes(c, b"\n"), k, d)
+    let n = length_at(rom, p);
+    l = parts::place(l, b"place", p);
+    l = text::bytes(l, b"bytes ");
+    l = wording::bytes(l, rom, p, n);
+    l = text::bytes(l, b"\ntext ");
+    l = wording::found_at(l, rom, p);
+    l = text::put(l, b'\n');
+    states_plain(l, k, rom, p)
 }
 
 // All of a place but what stands last.
-fn standing(k: Site, rom: &[u8], p: u32, d: Decoded, plain: bool) -> Line
-    ensures { λ r. ⌜ Adds none (standingText k (now (rom .entry)) p d plain) r ⌝ }
+fn standing(k: Site, rom: &[u8], p: u32, plain: bool) -> Line
+    ensures { λ r. ⌜ Adds none (standingText k (now (rom .entry)) p (decodedAt (now (rom .entry)) p) plain) r ⌝ }
 {
     if plain {
-        named(text::blank(), k, rom, p, d)
+        named(text::blank(), k, rom, p)
     } else {
-        columns(k, rom, p, d)
+        columns(k, rom, p)
     }
 }
 
@@ -147,8 +146,7 @@ fn row(l: Line, r: Reckoned, plain: bool) -> Line
 pub fn listed(k: Site, rom: &[u8], table: &[u64], p: u32, plain: bool) -> Line
     ensures { λ r. ⌜ Adds none (listedText k (now (rom .entry)) (now (table .entry)) p plain) r ⌝ }
 {
-    let d = decoded(rom, p);
-    let l = standing(k, rom, p, d, plain);
+    let l = standing(k, rom, p, plain);
     let r = paths::row_of(rom.len(), table, p);
     row(l, r, plain)
 }
@@ -157,8 +155,7 @@ pub fn listed(k: Site, rom: &[u8], table: &[u64], p: u32, plain: bool) -> Line
 pub fn on_way(k: Site, rom: &[u8], p: u32, total: u64, plain: bool) -> Line
     ensures { λ r. ⌜ Adds none (onWayText k (now (rom .entry)) p total plain) r ⌝ }
 {
-    let d = decoded(rom, p);
-    let l = standing(k, rom, p, d, plain);
+    let l = standing(k, rom, p, plain);
     last_number(l, b"total", total, plain)
 }
 
@@ -166,7 +163,7 @@ pub fn list_heading(l: Line, plain: bool) -> Line
     ensures { λ r. ⌜ Adds l (listHeading plain) r ⌝ }
 {
     if plain {
-        text::bytes(l, b"")
+        l
     } else {
         text::bytes(
             l,
@@ -179,7 +176,7 @@ pub fn way_heading(l: Line, plain: bool) -> Line
     ensures { λ r. ⌜ Adds l (wayHeading plain) r ⌝ }
 {
     if plain {
-        text::bytes(l, b"")
+        l
     } else {
         text::bytes(
             l,

@@ -1,11 +1,18 @@
-// What stands at a place, and refusals, in words.
+// What stands at a place, and refusals, in words; lines of one name and value.
+pub mod parts;
+pub mod ports;
+
 ghost use mathlib.Core.Path.{_≡_};
+ghost use mathlib.Core.List.{_++_};
+ghost use Prim.Native.Nat.{_/_, _%_, _^_};
 ghost use lib.ListN.{length};
 ghost use Rattle.site.specs.Costs.{noPorts};
-ghost use Rattle.listing.specs.Listing.{flowAt};
-ghost use Rattle.text.specs.Lines.{Adds};
+ghost use Rattle.listing.specs.Listing.{flowAt, decodedAt};
+ghost use Rattle.text.specs.Lines.{Adds, ascii};
+ghost use Rattle.text.specs.Numbers.{decimalOf};
 ghost use Rattle.wording.specs.Standing.{byteText, bytesAt, notHeldText, noCodeText, foundText, standsAt};
 ghost use Rattle.wording.specs.Refusals.{atPlace, outsideText, unknownText, cutText, readText, writeText, adjustText, divideText, entryText, followText, backOf, upwardText, shortText, groupName, leftOutText, deepText, longText, recordText, refusalText};
+ghost use Rattle.wording.specs.MirrorAlone.{aloneText};
 use codes::Decoded;
 use paths::Flow;
 use refusal::Refusal;
@@ -78,112 +85,125 @@ pub fn found(l: Line, p: u32, d: Decoded) -> Line
     }
 }
 
+// What the bytes at the place p begin with, past the end too.
+pub fn decoded(rom: &[u8], p: u32) -> Decoded
+    ensures { λ r. ⌜ r ≡ decodedAt (now (rom .entry)) p ⌝ }
+{
+    let at = p as usize;
+    if at < rom.len() {
+        return decoder::decode_at(&rom[at..], p);
+    }
+    decoder::decode_at(b"", p)
+}
+
+// The same in words.
+pub fn found_at(l: Line, rom: &[u8], p: u32) -> Line
+    ensures { λ r. ⌜ Adds l (foundText p (decodedAt (now (rom .entry)) p)) r ⌝ }
+{
+    let d = decoded(rom, p);
+    found(l, p, d)
+}
+
 // What stands at the place p: an instruction, an unknown code, one that is left out, or one that the end cuts short.
 pub fn stands(l: Line, rom: &[u8], p: u32) -> Line
     ensures { λ r. ⌜ Adds l (standsAt (now (rom .entry)) p) r ⌝ }
 {
     let at = p as usize;
     if rom.len() <= at {
-        return text::bytes(l, b"nothing");
+        text::bytes(l, b"nothing")
+    } else {
+        found_at(l, rom, p)
     }
-    let d = decoder::decode_at(&rom[at..], p);
-    found(l, p, d)
 }
 
-fn at_place(l: Line, p: u32) -> Line
-    ensures { λ r. ⌜ Adds l (atPlace p) r ⌝ }
+// A refusal's number and place.
+fn at_place(mut l: Line, n: u64, p: u32) -> Line
+    ensures { λ r. ⌜ Adds l (decimalOf n ++ atPlace p) r ⌝ }
 {
-    let a = text::bytes(l, b" at ");
-    let b = text::place(a, p);
-    text::bytes(b, b": ")
+    l = text::decimal(l, n);
+    l = text::bytes(l, b" at ");
+    l = text::place(l, p);
+    l = text::put(l, b':');
+    text::put(l, b' ')
 }
 
-fn outside(l: Line, n: usize, p: u32) -> Line
-    ensures { λ r. ⌜ Adds l (outsideText n p) r ⌝ }
+fn outside(mut l: Line, rom: &[u8], p: u32) -> Line
+    ensures { λ r. ⌜ Adds l (outsideText (length (now (rom .entry))) p) r ⌝ }
 {
-    let a = text::bytes(l, b"2");
-    let b = at_place(a, p);
-    let c = text::bytes(b, b"outside the ROM, which has ");
-    let d = text::decimal(c, n as u64);
-    text::bytes(d, b" bytes")
+    l = at_place(l, 2, p);
+    l = text::bytes(l, b"outside the ROM, which has ");
+    l = text::decimal(l, rom.len() as u64);
+    text::bytes(l, b" bytes")
 }
 
-fn unknown(l: Line, rom: &[u8], p: u32) -> Line
+fn unknown(mut l: Line, rom: &[u8], p: u32) -> Line
     ensures { λ r. ⌜ Adds l (unknownText (now (rom .entry)) p) r ⌝ }
 {
-    let a = text::bytes(l, b"3");
-    let b = at_place(a, p);
-    let c = text::bytes(b, b"no instruction of the set begins with the bytes ");
-    bytes(c, rom, p, 6)
+    l = at_place(l, 3, p);
+    l = text::bytes(l, b"no instruction of the set begins with the bytes ");
+    bytes(l, rom, p, 6)
 }
 
-fn cut(l: Line, rom: &[u8], p: u32) -> Line
+fn cut(mut l: Line, rom: &[u8], p: u32) -> Line
     ensures { λ r. ⌜ Adds l (cutText (now (rom .entry)) p) r ⌝ }
 {
-    let a = text::bytes(l, b"4");
-    let b = at_place(a, p);
-    let c = text::bytes(
-        b,
+    l = at_place(l, 4, p);
+    l = text::bytes(
+        l,
         b"the ROM ends within the instruction that begins with the bytes ",
     );
-    bytes(c, rom, p, 6)
+    bytes(l, rom, p, 6)
 }
 
-fn read(l: Line, p: u32) -> Line
+fn read(mut l: Line, p: u32) -> Line
     ensures { λ r. ⌜ Adds l (readText p) r ⌝ }
 {
-    let a = text::bytes(l, b"5");
-    let b = at_place(a, p);
-    text::bytes(b, b"a read outside the ROM and the working memory")
+    l = at_place(l, 5, p);
+    text::bytes(l, b"a read outside the ROM and the working memory")
 }
 
-fn write(l: Line, p: u32) -> Line
+fn write(mut l: Line, p: u32) -> Line
     ensures { λ r. ⌜ Adds l (writeText p) r ⌝ }
 {
-    let a = text::bytes(l, b"6");
-    let b = at_place(a, p);
-    text::bytes(b, b"a write outside the working memory")
+    l = at_place(l, 6, p);
+    text::bytes(l, b"a write outside the working memory")
 }
 
-fn adjust(l: Line, rom: &[u8], p: u32) -> Line
+fn adjust(mut l: Line, rom: &[u8], p: u32) -> Line
     ensures { λ r. ⌜ Adds l (adjustText (now (rom .entry)) p) r ⌝ }
 {
-    let a = text::bytes(l, b"7");
-    let b = at_place(a, p);
-    let c = stands(b, rom, p);
+    l = at_place(l, 7, p);
+    l = stands(l, rom, p);
     text::bytes(
-        c,
+        l,
         b" with a value and flags that are in no row of the manual",
     )
 }
 
-fn divide(l: Line, rom: &[u8], p: u32) -> Line
+fn divide(mut l: Line, rom: &[u8], p: u32) -> Line
     ensures { λ r. ⌜ Adds l (divideText (now (rom .entry)) p) r ⌝ }
 {
-    let a = text::bytes(l, b"14");
-    let b = at_place(a, p);
-    let c = stands(b, rom, p);
-    text::bytes(c, b" by zero, or with a quotient that does not fit")
+    l = at_place(l, 14, p);
+    l = stands(l, rom, p);
+    text::bytes(l, b" by zero, or with a quotient that does not fit")
 }
 
-fn entry(l: Line, n: usize, p: u32) -> Line
-    ensures { λ r. ⌜ Adds l (entryText n p) r ⌝ }
+fn entry(mut l: Line, rom: &[u8], p: u32) -> Line
+    ensures { λ r. ⌜ Adds l (entryText (length (now (rom .entry))) p) r ⌝ }
 {
-    let a = text::bytes(l, b"8");
-    let b = at_place(a, p);
-    let c = text::bytes(b, b"the entry is odd or outside the ROM, which has ");
-    let d = text::decimal(c, n as u64);
-    text::bytes(d, b" bytes")
+    l = at_place(l, 8, p);
+    l = text::bytes(l, b"the entry is odd or outside the ROM, which has ");
+    l = text::decimal(l, rom.len() as u64);
+    text::bytes(l, b" bytes")
 }
 
-fn follow(l: Line, rom: &[u8], p: u32) -> Line
+fn follow(mut l: Line, rom: &[u8], p: u32) -> Line
     ensures { λ r. ⌜ Adds l (followText (now (rom .entry)) p) r ⌝ }
 {
-    let a = text::bytes(l, b"9");
-    let b = at_place(a, p);
-    let c = stands(b, rom, p);
+    l = at_place(l, 9, p);
+    l = stands(l, rom, p);
     text::bytes(
-        c,
+        l,
         b"; calls and jumps by a register or a vector are not followed",
     )
 }
@@ -202,14 +222,13 @@ fn back(p: u32, f: Flow) -> u32
     }
 }
 
-fn upward(l: Line, p: u32, to: u32) -> Line
+fn upward(mut l: Line, p: u32, to: u32) -> Line
     ensures { λ r. ⌜ Adds l (upwardText p to) r ⌝ }
 {
-    let a = text::bytes(l, b"10");
-    let b = at_place(a, p);
-    let c = text::bytes(b, b"a branch goes back to ");
-    let d = text::place(c, to);
-    text::bytes(d, b"; loops have no longest way")
+    l = at_place(l, 10, p);
+    l = text::bytes(l, b"a branch goes back to ");
+    l = text::place(l, to);
+    text::bytes(l, b"; loops have no longest way")
 }
 
 fn upward_at(l: Line, rom: &[u8], p: u32) -> Line
@@ -220,12 +239,12 @@ fn upward_at(l: Line, rom: &[u8], p: u32) -> Line
     upward(l, p, to)
 }
 
-fn short(l: Line, n: u32) -> Line
+fn short(mut l: Line, n: u32) -> Line
     ensures { λ r. ⌜ Adds l (shortText n) r ⌝ }
 {
-    let a = text::bytes(l, b"13: what was lent is too short; it needs ");
-    let b = text::decimal(a, n as u64);
-    text::bytes(b, b" elements")
+    l = text::bytes(l, b"13: what was lent is too short; it needs ");
+    l = text::decimal(l, n as u64);
+    text::bytes(l, b" elements")
 }
 
 fn group_name(l: Line, g: u32) -> Line
@@ -240,46 +259,75 @@ fn group_name(l: Line, g: u32) -> Line
     }
 }
 
-fn left_out(l: Line, p: u32, g: u32) -> Line
-    ensures { λ r. ⌜ Adds l (leftOutText p g) r ⌝ }
+fn left_out(mut l: Line, x: u32) -> Line
+    ensures { λ r. ⌜ Adds l (leftOutText (x % 2 ^ 24) (x / 2 ^ 24)) r ⌝ }
 {
-    let a = text::bytes(l, b"15");
-    let b = at_place(a, p);
-    let c = group_name(b, g);
-    let d = text::bytes(c, b", group ");
-    let e = text::decimal(d, g as u64);
-    text::bytes(e, b", which this set leaves out")
+    let g = x / 16777216;
+    l = at_place(l, 15, x % 16777216);
+    l = group_name(l, g);
+    l = text::bytes(l, b", group ");
+    l = text::decimal(l, g as u64);
+    text::bytes(l, b", which this set leaves out")
 }
 
-fn deep(l: Line, rom: &[u8], p: u32) -> Line
+fn deep(mut l: Line, rom: &[u8], p: u32) -> Line
     ensures { λ r. ⌜ Adds l (deepText (now (rom .entry)) p) r ⌝ }
 {
-    let a = text::bytes(l, b"16");
-    let b = at_place(a, p);
-    let c = stands(b, rom, p);
+    l = at_place(l, 16, p);
+    l = stands(l, rom, p);
     text::bytes(
-        c,
+        l,
         b" is a ninth level of calls; a routine that calls itself has no last one",
     )
 }
 
-fn long(l: Line, p: u32) -> Line
+fn long(mut l: Line, p: u32) -> Line
     ensures { λ r. ⌜ Adds l (longText p) r ⌝ }
 {
-    let a = text::bytes(l, b"22");
-    let b = at_place(a, p);
-    text::bytes(b, b"the longest way takes more than 1000000000 states")
+    l = at_place(l, 22, p);
+    text::bytes(l, b"the longest way takes more than 1000000000 states")
 }
 
 // Of a replay; its place is a byte of the recording.
-fn recorded(l: Line, number: &[u8], p: u32, what: &[u8]) -> Line
-    ensures { λ r. ⌜ Adds l (recordText (now (number .entry)) p (now (what .entry))) r ⌝ }
+fn at_byte(mut l: Line, n: u64, p: u32) -> Line
+    ensures { λ r. ⌜ Adds l (decimalOf n ++ (ascii " at byte " ++ decimalOf p)) r ⌝ }
 {
-    let a = text::bytes(l, number);
-    let b = text::bytes(a, b" at byte ");
-    let c = text::decimal(b, p as u64);
-    let d = text::bytes(c, b" of the recording: ");
-    text::bytes(d, what)
+    l = text::decimal(l, n);
+    l = text::bytes(l, b" at byte ");
+    text::decimal(l, p as u64)
+}
+
+fn bad_length(mut l: Line, p: u32) -> Line
+    ensures { λ r. ⌜ Adds l (recordText (ascii "18") p (ascii "the length of the record is not 9")) r ⌝ }
+{
+    l = at_byte(l, 18, p);
+    text::bytes(l, b" of the recording: the length of the record is not 9")
+}
+
+fn unfinished(mut l: Line, p: u32) -> Line
+    ensures { λ r. ⌜ Adds l (recordText (ascii "19") p (ascii "the recording ends before the record does")) r ⌝ }
+{
+    l = at_byte(l, 19, p);
+    text::bytes(
+        l,
+        b" of the recording: the recording ends before the record does",
+    )
+}
+
+// Those without a place, by their numbers.
+fn alone(l: Line, n: u32) -> Line
+    ensures { λ r. ⌜ Adds l (aloneText n) r ⌝ }
+{
+    match n {
+        1 => text::bytes(
+            l,
+            b"1: the board is wrong, or PC is odd or at least 0x1000000",
+        ),
+        11 => text::bytes(l, b"11: not an instruction: a field is out of range"),
+        12 => text::bytes(l, b"12: the budget is over 1000000 steps"),
+        17 => text::bytes(l, b"17: the recording's version is not 1"),
+        _ => text::bytes(l, b"20: the replay has ended"),
+    }
 }
 
 // A refusal: its number, its place, what stands there and what that means.
@@ -287,37 +335,26 @@ pub fn refusal(l: Line, rom: &[u8], f: Refusal) -> Line
     ensures { λ r. ⌜ Adds l (refusalText (now (rom .entry)) f) r ⌝ }
 {
     match f {
-        Refusal::BadBoard => text::bytes(
-            l,
-            b"1: the board is wrong, or PC is odd or at least 0x1000000",
-        ),
-        Refusal::FetchOutside(p) => outside(l, rom.len(), p),
+        Refusal::BadBoard => alone(l, 1),
+        Refusal::FetchOutside(p) => outside(l, rom, p),
         Refusal::UnknownCode(p) => unknown(l, rom, p),
         Refusal::CutShort(p) => cut(l, rom, p),
         Refusal::ReadOutside(p) => read(l, p),
         Refusal::WriteOutside(p) => write(l, p),
         Refusal::NoAdjustRow(p) => adjust(l, rom, p),
-        Refusal::BadEntry(p) => entry(l, rom.len(), p),
+        Refusal::BadEntry(p) => entry(l, rom, p),
         Refusal::NotFollowed(p) => follow(l, rom, p),
         Refusal::NotUpward(p) => upward_at(l, rom, p),
-        Refusal::NotInstruction => text::bytes(
-            l,
-            b"11: not an instruction: a field is out of range",
-        ),
-        Refusal::BudgetTooLarge => text::bytes(l, b"12: the budget is over 1000000 steps"),
+        Refusal::NotInstruction => alone(l, 11),
+        Refusal::BudgetTooLarge => alone(l, 12),
         Refusal::LentTooShort(n) => short(l, n),
         Refusal::DivideFails(p) => divide(l, rom, p),
-        Refusal::LeftOut(x) => left_out(l, x % 16777216, x / 16777216),
+        Refusal::LeftOut(x) => left_out(l, x),
         Refusal::TooDeep(p) => deep(l, rom, p),
-        Refusal::BadVersion => text::bytes(l, b"17: the recording's version is not 1"),
-        Refusal::BadLength(p) => recorded(l, b"18", p, b"the length of the record is not 9"),
-        Refusal::Unfinished(p) => recorded(
-            l,
-            b"19",
-            p,
-            b"the recording ends before the record does",
-        ),
-        Refusal::ReplayEnded => text::bytes(l, b"20: the replay has ended"),
+        Refusal::BadVersion => alone(l, 17),
+        Refusal::BadLength(p) => bad_length(l, p),
+        Refusal::Unfinished(p) => unfinished(l, p),
+        Refusal::ReplayEnded => alone(l, 20),
         Refusal::TooLong(p) => long(l, p),
     }
 }

@@ -1,4 +1,4 @@
-use Rattle.lines.proofs.Padding.{padded}
+use Rattle.wording.proofs.Padding.{padded}
 use Rattle.text.proofs.Adding.{more}
 use borrow.Author.Needs.{needs}
 use Rattle.lines.proofs.calls.inside_columns.Statement.{statement}

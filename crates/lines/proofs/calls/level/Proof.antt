@@ -1,5 +1,5 @@
 use Prim.Native.Nat.{_*_}
-use Rattle.lines.proofs.Padding.{indented}
+use Rattle.wording.proofs.Padding.{indented}
 use Rattle.lines.specs.Calls.{levelText}
 use borrow.Author.Needs.{needs}
 use Rattle.lines.proofs.calls.level.Statement.{statement}

@@ -8,5 +8,5 @@ pub listed-spec : {M : Type 1} → statement M
 unfolding listedText
 listed-spec =
     tie.close
-    (tie.spec (λ c κs. search needs) (λ c κs. search needs) (λ c κs. search needs) (λ c κs. search needs)
-    (λ c. rw (← (c .before .before .before .decoded .ensures), ← (c .before .row-of .ensures)) (more (c .before .before .standing .ensures) (c .row .ensures))))
+    (tie.spec (λ c κs. search needs) (λ c κs. search needs) (λ c κs. search needs)
+    (λ c. rw (← (c .before .row-of .ensures)) (more (c .before .before .standing .ensures) (c .row .ensures))))

@@ -8,5 +8,5 @@ pub on-way-spec : {M : Type 1} → statement M
 unfolding onWayText
 on-way-spec =
     tie.close
-    (tie.spec (λ c κs. search needs) (λ c κs. search needs) (λ c. search needs) (λ c κs. search needs)
-    (λ c. rw (← (c .before .before .before .decoded .ensures)) (more (c .before .before .standing .ensures) (c .last-number .ensures))))
+    (tie.spec (λ c κs. search needs) (λ c. search needs) (λ c κs. search needs)
+    (λ c. more (c .before .before .standing .ensures) (c .last-number .ensures)))

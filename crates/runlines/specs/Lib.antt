@@ -1,0 +1,4 @@
+pub mod Runs
+pub mod Routines
+pub mod Traces
+pub mod Replays
