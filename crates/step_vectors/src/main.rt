@@ -1,6 +1,7 @@
-// A step of every form from three states, every condition, marked examples 1 to 9, refusals 1 to 7 and 14 and what is easily missed.
-// A line has the state before, how the step went, which of ER0 to ER7 changed, and the rest of the state after. `stdout` is what
-// bench/step_vectors.c prints, by a model that shares no text with this product.
+// A step of every form from three states, every condition, marked examples 1 to 9, refusals 1 to 7 and 14, what is easily missed and
+// refusals with a pattern in all registers. A line has the state before, how the step went, which of ER0 to ER7 changed, and the rest
+// of the state after; each step is made a second time where the record lies, and a line says so if that does otherwise. `stdout` is
+// what bench/step_vectors.c prints, by a model that shares no text with this product.
 use memory::Board;
 use refusal::Outcome;
 use refusal::Refusal;
@@ -1085,8 +1086,8 @@ fn vector_in_working_memory() {
     line(8, &rom, &mut ram, &mut again, start(0, 0, 0x0000000C, 0, 0));
 }
 
-// PC odd; past the end; no code; cut short; a byte, a word and its register going up, RTS; a register going down, a call, a vector's
-// call; no row; quotients that do not fit; left out.
+// Every refusal that a step has. PC odd; past the end; no code; cut short; reads: a byte, a word with the register going up, RTS;
+// writes: a byte with the register going down, two pushes; no row; a quotient that does not fit; left out.
 const HELD_PC: [u32; 13] = [9, 8, 0, 6, 0, 0, 0, 0, 0, 0, 0, 0, 0];
 
 const HELD_CODES: [u64; 13] = [
@@ -1105,11 +1106,17 @@ const HELD_CODES: [u64; 13] = [
     0x5700000000000000,
 ];
 
-// A state that has each byte of ER0 to ER7 once: what a refused step has changed is then seen.
+// A pattern with no byte twice, so that any change shows.
 fn filled(pc: u32) -> Registers {
     Registers {
         er: [
-            0x80818283, 0x90919293, 0xA0A1A2A3, 0xB0B1B2B3, 0xC0C1C2C3, 0xD0D1D2D3, 0xE0E1E2E3,
+            0x80818283,
+            0x90919293,
+            0xA0A1A2A3,
+            0xB0B1B2B3,
+            0xC0C1C2C3,
+            0xD0D1D2D3,
+            0xE0E1E2E3,
             0xF0F1F2F3,
         ],
         pc: pc,
@@ -1117,7 +1124,7 @@ fn filled(pc: u32) -> Registers {
     }
 }
 
-// Whether the step is refused, in place as by value, and the record holds what it held.
+// Whether the record, by value and in place, is after the step what it was before.
 fn holds(k: usize) -> bool {
     let p = HELD_PC;
     let c = HELD_CODES;
