@@ -2,7 +2,7 @@
 use Prim.Native.Nat.{ℕ, _+_, _%_}
 use mathlib.Core.Path.{_≡_, refl, sym, ap}
 use mathlib.Core.Bool.{Bool, true, false}
-use mathlib.Core.List.{List}
+use mathlib.Core.List.{List, [], _∷_}
 use lib.Dec.{ltb}
 use Rattle.arith.specs.declared.Width.the-variants.{Byte}
 use Rattle.refusal.specs.declared.Outcome.the-variants.{Done}
@@ -15,13 +15,14 @@ use Rattle.operate.specs.declared.Deed.{Deed}
 use Rattle.operate.specs.MirrorLent.{Does, effectIn}
 use Rattle.operate.specs.Results.{Effect}
 use Rattle.timing.specs.Made.{madeAt, sumOf, baseOf}
+use Rattle.moves.specs.Made.{trailOf}
 use Rattle.moves.specs.Moves.{stepped, addressOf, stepOver}
 use Rattle.moves.proofs.States.{states-once, states-twice}
 use Rattle.bitwork.specs.Bitwork.{tookOf, gaveOf, takesAt, givesAt, takesOf, givesOf}
 use Rattle.flow.specs.Targets.{nextOf}
-use Rattle.codes.specs.Cycles.{touch}
+use Rattle.codes.specs.Cycles.{touch, byte}
 use Rattle.codes.specs.declared.Dir.the-variants.{Load, Store}
-use Rattle.codes.specs.declared.Place.the-variants.{At, Abs8}
+use Rattle.codes.specs.declared.Place.the-variants.{At, Abs8, Abs24}
 use Rattle.codes.specs.declared.Take.{Take}
 use Rattle.codes.specs.declared.Give.{Give}
 use Rattle.codes.specs.declared.Index.{Index}
@@ -94,3 +95,24 @@ module _ (index : Index) (s n pc : ℕ) (er : List ℕ) (f : Condition) (b : Boa
   pub give-ends : (give : Give) (ram′ : List ℕ) → stepped (effectIn er pc e) ram′ ≡ givesAt give index (addressIn s er) (lent er pc f) b rom ram
       → Ends (Gives give index (spotAs s)) ram′ (4 + x + x)
   give-ends give ram′ q = gave-ends give ram′ (ltb s 256) refl q
+
+-- what they touch, by the operand
+module _ (s t pc : ℕ) (er : List ℕ) (f : Condition) where
+  taken-at : (b : Bool) → ltb s 256 ≡ b → trailOf (lent er pc f) t (touch Load Byte (Abs24 (addressIn s er)) ∷ [])
+      ≡ trailOf (lent er pc f) t (byte (spotAs s) (λ p. touch Load Byte p ∷ []))
+  unfolding addressOf stepOver partOf spotAs addressIn
+  taken-at true h = rw h
+  taken-at false h = rw h
+
+  pub taken-trail : trailOf (lent er pc f) t (touch Load Byte (Abs24 (addressIn s er)) ∷ []) ≡ trailOf (lent er pc f) t (byte (spotAs s) (λ p. touch Load Byte p ∷ []))
+  taken-trail = taken-at (ltb s 256) refl
+
+  given-at : (b : Bool) → ltb s 256 ≡ b → trailOf (lent er pc f) t (touch Load Byte (Abs24 (addressIn s er)) ∷ touch Store Byte (Abs24 (addressIn s er)) ∷ [])
+      ≡ trailOf (lent er pc f) t (byte (spotAs s) (λ p. touch Load Byte p ∷ touch Store Byte p ∷ []))
+  unfolding addressOf stepOver partOf spotAs addressIn
+  given-at true h = rw h
+  given-at false h = rw h
+
+  pub given-trail : trailOf (lent er pc f) t (touch Load Byte (Abs24 (addressIn s er)) ∷ touch Store Byte (Abs24 (addressIn s er)) ∷ [])
+      ≡ trailOf (lent er pc f) t (byte (spotAs s) (λ p. touch Load Byte p ∷ touch Store Byte p ∷ []))
+  given-trail = given-at (ltb s 256) refl

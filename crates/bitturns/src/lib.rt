@@ -7,7 +7,7 @@ use memory::Board;
 use registers::Condition;
 use turns::Turn;
 ghost use mathlib.Core.Path.{_≡_};
-ghost use Rattle.turns.specs.MirrorTurn.{Turns, TurnsOn};
+ghost use Rattle.turns.specs.MirrorTurn.{Turns, TurnsOn, Trails, touchedBy};
 ghost use Rattle.entry.specs.Entry.{takeAs, giveAs, indexAs, takenIn, givenIn, takenAt, givenAt};
 ghost use Rattle.bitturns.specs.MirrorBitturns.{addressIn};
 
@@ -89,12 +89,14 @@ pub fn take_at(
     b: Board,
     rom: &[u8],
     ram: &[u8],
+    trail: &mut u64,
 ) -> Turn
-    ensures { λ t. ⌜ TurnsOn (takenAt k x) (now (er .entry)) (now (er .entry)) pc f b (now (rom .entry)) (now (ram .entry)) (now (ram .entry)) t ⌝ }
+    ensures did { λ t. ⌜ TurnsOn (takenAt k x) (now (er .entry)) (now (er .entry)) pc f b (now (rom .entry)) (now (ram .entry)) (now (ram .entry)) t ⌝ }
+    ensures told { λ t. ⌜ Trails (touchedBy (takenAt k x)) (now (er .entry)) f (now (trail .entry)) (now (trail .exit)) t ⌝ }
 {
     let index = index_as((x / 512 % 32) as u8);
     let a = address((x % 512) as u32, er);
-    let e = bitwork::take_at(take_as(k), index, a, er, f, b, rom, ram);
+    let e = bitwork::take_at(take_as(k), index, a, er, f, b, rom, ram, trail);
     let n = timing::access(b.site, Width::Byte, a);
     turns::ended(e, flow::next(pc, 4), 4 + n)
 }
@@ -109,12 +111,14 @@ pub fn give_at(
     b: Board,
     rom: &[u8],
     ram: &mut [u8],
+    trail: &mut u64,
 ) -> Turn
-    ensures { λ t. ⌜ TurnsOn (givenAt k x) (now (er .entry)) (now (er .entry)) pc f b (now (rom .entry)) (now (ram .entry)) (now (ram .exit)) t ⌝ }
+    ensures did { λ t. ⌜ TurnsOn (givenAt k x) (now (er .entry)) (now (er .entry)) pc f b (now (rom .entry)) (now (ram .entry)) (now (ram .exit)) t ⌝ }
+    ensures told { λ t. ⌜ Trails (touchedBy (givenAt k x)) (now (er .entry)) f (now (trail .entry)) (now (trail .exit)) t ⌝ }
 {
     let index = index_as((x / 512 % 32) as u8);
     let a = address((x % 512) as u32, er);
-    let e = bitwork::give_at(give_as(k), index, a, er, f, b, rom, ram);
+    let e = bitwork::give_at(give_as(k), index, a, er, f, b, rom, ram, trail);
     let n = timing::access(b.site, Width::Byte, a);
     turns::ended(e, flow::next(pc, 4), 4 + n + n)
 }

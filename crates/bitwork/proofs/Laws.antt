@@ -1,24 +1,30 @@
 -- What the parts of a bit instruction leave. Assumes nothing.
 use Prim.Native.Nat.{ℕ, _%_}
 use mathlib.Core.Path.{_≡_, sym, _∙_, ap, ap₂}
-use mathlib.Core.Bool.{Bool}
-use mathlib.Core.List.{List}
+use mathlib.Core.Bool.{Bool, true, false}
+use mathlib.Core.List.{List, [], _∷_}
 use native.Mathlib.Nat.{mod-mod}
 use Rattle.arith.specs.declared.Width.the-variants.{Byte}
 use Rattle.registers.specs.declared.Condition.{Condition}
 use Rattle.registers.specs.declared.Registers.{Registers}
 use Rattle.registers.specs.Lent.{lent}
+use Rattle.refusal.specs.declared.Outcome.the-variants.{Done}
 use Rattle.memory.specs.Access.{writeOf, wrote}
+use Rattle.memory.specs.Trail.{touchOf, noted, putNoted}
 use Rattle.memory.specs.declared.Board.{Board}
 use Rattle.memory.specs.declared.Got.the-variants.{Value}
 use Rattle.memory.specs.declared.Put.{Put}
 use Rattle.operate.specs.MirrorLent.{effectIn}
 use Rattle.operate.specs.Results.{Effect}
-use Rattle.moves.specs.Moves.{stepped}
+use Rattle.moves.specs.Made.{trailOf}
+use Rattle.moves.specs.Moves.{stepped, addressOf, stepOver}
 use Rattle.moves.specs.MirrorMoves.{keptOf}
-use Rattle.moves.proofs.Laws.{kept-stored}
+use Rattle.moves.proofs.Laws.{kept-stored, noted-kept}
 use Rattle.bits.specs.Bits.{bitOf, withBit}
 use Rattle.bits.specs.Effects.{takenOf, givenOf}
+use Rattle.codes.specs.Cycles.{touch}
+use Rattle.codes.specs.declared.Dir.the-variants.{Load, Store}
+use Rattle.codes.specs.declared.Place.the-variants.{Abs24}
 use Rattle.codes.specs.declared.Take.{Take}
 use Rattle.codes.specs.declared.Give.{Give}
 use Rattle.codes.specs.declared.Index.{Index}
@@ -51,3 +57,9 @@ pub given-stored : (give : Give) (index : Index) (a x y pc : ℕ) (er : List ℕ
     → stepped (effectIn er pc (keptOf p f f)) ram′ ≡ gaveTo (Value x) give index a (lent er pc f) b ram
 unfolding gaveTo
 given-stored give index a x y pc er f b ram ram′ p u m = rw (sym u, sym m) (ap (λ (e : Effect). stepped e ram′) (kept-stored p er pc f f))
+
+-- the read noted, and behind it the write
+pub noted-given : (t t₁ t₂ pc a : ℕ) (er : List ℕ) (f : Condition) (p : Put) → t₁ ≡ noted t (touchOf false Byte a) → t₂ ≡ putNoted p t₁ (touchOf true Byte a)
+    → keptOf p f f .outcome ≡ Done → t₂ ≡ trailOf (lent er pc f) t (touch Load Byte (Abs24 a) ∷ touch Store Byte (Abs24 a) ∷ [])
+unfolding addressOf stepOver
+noted-given t t₁ t₂ pc a er f p h k o = rw h at (noted-kept t₁ t₂ (touchOf true Byte a) p f f k o)

@@ -7,11 +7,15 @@ use memory::Board;
 use memory::Got;
 use operate::Deed;
 use registers::Condition;
+ghost use mathlib.Core.List.{[], _∷_};
 ghost use Rattle.arith.specs.declared.Width.the-variants.{Byte};
+ghost use Rattle.codes.specs.Cycles.{touch};
+ghost use Rattle.codes.specs.declared.Dir.the-variants.{Load, Store};
+ghost use Rattle.codes.specs.declared.Place.the-variants.{Abs24};
 ghost use Rattle.registers.specs.declared.Registers.{Registers};
 ghost use Rattle.registers.specs.Parts.{partOf, withPart};
 ghost use Rattle.operate.specs.MirrorLent.{Does};
-ghost use Rattle.moves.specs.MirrorMoves.{Leaves, LeavesBoth};
+ghost use Rattle.moves.specs.MirrorMoves.{Leaves, LeavesBoth, Notes};
 ghost use Rattle.bitwork.specs.Bitwork.{tookOf, gaveOf, takesAt, givesAt};
 ghost use Rattle.bitwork.specs.MirrorBitwork.{Numbers, Took, Gave};
 
@@ -67,10 +71,12 @@ pub fn take_at(
     b: Board,
     rom: &[u8],
     ram: &[u8],
+    trail: &mut u64,
 ) -> Deed
-    ensures { λ e. ⌜ Leaves (λ (r : Registers). takesAt take index a r b (now (rom .entry)) (now (ram .entry))) (now (er .entry)) (now (er .entry)) f e ⌝ }
+    ensures did { λ e. ⌜ Leaves (λ (r : Registers). takesAt take index a r b (now (rom .entry)) (now (ram .entry))) (now (er .entry)) (now (er .entry)) f e ⌝ }
+    ensures told { λ e. ⌜ Notes (touch Load Byte (Abs24 a) ∷ []) (now (er .entry)) f e (now (trail .entry)) (now (trail .exit)) ⌝ }
 {
-    match memory::read(Width::Byte, b, rom, ram, a) {
+    match memory::read(Width::Byte, b, rom, ram, a, trail) {
         Got::Value(x) => operate::did(took(take, index, x, er, f)),
         Got::NotRead(x) => operate::refused(f, x),
     }
@@ -86,13 +92,15 @@ pub fn give_at(
     b: Board,
     rom: &[u8],
     ram: &mut [u8],
+    trail: &mut u64,
 ) -> Deed
-    ensures { λ e. ⌜ LeavesBoth (λ (r : Registers). givesAt give index a r b (now (rom .entry)) (now (ram .entry))) (now (er .entry)) (now (er .entry)) f e (now (ram .exit)) ⌝ }
+    ensures did { λ e. ⌜ LeavesBoth (λ (r : Registers). givesAt give index a r b (now (rom .entry)) (now (ram .entry))) (now (er .entry)) (now (er .entry)) f e (now (ram .exit)) ⌝ }
+    ensures told { λ e. ⌜ Notes (touch Load Byte (Abs24 a) ∷ touch Store Byte (Abs24 a) ∷ []) (now (er .entry)) f e (now (trail .entry)) (now (trail .exit)) ⌝ }
 {
-    match memory::read(Width::Byte, b, rom, &ram[..], a) {
+    match memory::read(Width::Byte, b, rom, &ram[..], a, trail) {
         Got::Value(x) => {
             let y = gave(give, index, x, er, f);
-            moves::kept(memory::write(Width::Byte, b, ram, a, y), f, f)
+            moves::kept(memory::write(Width::Byte, b, ram, a, y, trail), f, f)
         }
         Got::NotRead(x) => operate::refused(f, x),
     }

@@ -18,7 +18,7 @@ use Rattle.host.specs.Answers.{Noted, noted, tell, refuse}
 use Rattle.host.specs.Figures.{figureTold, FigureExactly, FigureKept}
 
 -- no refusal has the number 0
-numbered : (f : Refusal) → 1 ≤ numberOf f
+pub numbered : (f : Refusal) → 1 ≤ numberOf f
 numbered BadBoard = omega arith
 numbered (FetchOutside p) = omega arith
 numbered (UnknownCode p) = omega arith

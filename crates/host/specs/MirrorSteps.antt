@@ -9,8 +9,7 @@ use Rattle.step.specs.declared.StepAnswer.{StepAnswer}
 use Rattle.run.specs.declared.RunAnswer.{RunAnswer}
 use Rattle.routine.specs.declared.RoutineAnswer.{RoutineAnswer}
 use Rattle.arith.specs.Widths.{num}
-use Rattle.timing.specs.Made.{Access}
-use Rattle.memory.specs.declared.told.Access as entry
+use Rattle.memory.specs.declared.told.Access.{Access}
 use Rattle.watch.specs.Watch.{listOf}
 use Rattle.layout.specs.Lent.{overwrite}
 use Rattle.layout.specs.Board.{boardOf}
@@ -42,13 +41,13 @@ stepLent board rom ram regs answer =
     left (k .returned) (a .mem) (k .regs) (k .answer)
 
 -- no access; the numbers of an access as the code has it; and thirteen numbers
-abbrev pub noEntry : entry.Access
+abbrev pub noEntry : Access
 noEntry = record { write = false; bytes = 0; place = 0 }
 
-abbrev pub three : entry.Access → List ℕ → List ℕ
+abbrev pub three : Access → List ℕ → List ℕ
 three x more = x .place ∷ x .bytes ∷ num (x .write) ∷ more
 
-abbrev pub thirteen : ℕ → entry.Access → entry.Access → entry.Access → entry.Access → List ℕ
+abbrev pub thirteen : ℕ → Access → Access → Access → Access → List ℕ
 thirteen n x y z t = n ∷ three x (three y (three z (three t [])))
 
 unfoldable pub runTold : RunAnswer → List ℕ → List ℕ → Kept

@@ -1,20 +1,25 @@
 -- host/h8.h, h8_step and h8_run: what they return and leave in the lent arrays.
-use Prim.Native.Nat.{ℕ, zero, suc}
+use Prim.Native.Nat.{ℕ, zero, suc, _+_}
+use mathlib.Core.Path.{_≡_}
 use mathlib.Core.Bool.{cond}
 use mathlib.Core.List.{List, [], _∷_}
-use lib.Dec.{ltb}
-use lib.ListN.{length, getD}
+use lib.Dec.{ltb, eqb}
+use lib.ListN.{length, getD, drop}
+use Rattle.arith.specs.Widths.{num}
 use Rattle.refusal.specs.declared.Refusal.{Refusal}
 use Rattle.refusal.specs.declared.Refusal.the-variants.{BadBoard, BudgetTooLarge, LentTooShort}
 use Rattle.refusal.specs.declared.Outcome.{Outcome}
 use Rattle.refusal.specs.declared.Outcome.the-variants.{Done, Refused}
+use Rattle.codes.specs.declared.Instruction.{Instruction}
+use Rattle.codes.specs.declared.Decoded.the-variants.{Code}
+use Rattle.decoder.specs.MirrorDecode.{decodeOf}
 use Rattle.step.specs.Step.{After, stepOf}
-use Rattle.timing.specs.Made.{Access}
-use Rattle.watch.specs.Watch.{listOf}
+use Rattle.memory.specs.declared.told.Access.{Access}
+use Rattle.timing.specs.Made.{sumOf, baseOf}
+use Rattle.watch.specs.Watch.{listOf, Spares}
 use Rattle.run.specs.Run.{Ran, runOf}
 use Rattle.run.specs.declared.Ending.{Ending}
 use Rattle.run.specs.declared.Ending.the-variants.{AtStop, Spent, Halted}
-use Rattle.layout.specs.Choices.{dirNumber}
 use Rattle.layout.specs.Lent.{overwrite}
 use Rattle.layout.specs.Board.{boardOf}
 use Rattle.layout.specs.Registers.{registersLength, registersOf, tenOf}
@@ -43,7 +48,7 @@ stepLength = 17
 abbrev pub entries : ℕ → List Access → List ℕ
 entries zero xs = []
 entries (suc n) [] = 0 ∷ 0 ∷ 0 ∷ entries n []
-entries (suc n) (x ∷ xs) = x .place ∷ x .bytes ∷ dirNumber (x .dir) ∷ entries n xs
+entries (suc n) (x ∷ xs) = x .place ∷ x .bytes ∷ num (x .write) ∷ entries n xs
 
 -- how many, and four of them
 abbrev pub touched : List Access → List ℕ
@@ -70,6 +75,27 @@ stepCall board rom ram regs answer =
     (cond (ltb (length regs) registersLength) (refused (LentTooShort registersLength))
     (cond (ltb 255 (getD regs 9 0)) (refused BadBoard)
     (stepLeft (a .answer .outcome) a xs ram regs answer)))
+
+-- the accesses that an answer tells: as many as its fifth number says, three numbers each
+abbrev pub accessIn : List ℕ → ℕ → Access
+accessIn answer i = record { write = eqb (getD answer (i + 2) 0) 1; bytes = getD answer (i + 1) 0; place = getD answer i 0 }
+
+abbrev pub accessesIn : ℕ → List ℕ → ℕ → List Access
+accessesIn zero answer i = []
+accessesIn (suc n) answer i = accessIn answer i ∷ accessesIn n answer (i + 3)
+
+abbrev pub touchedIn : List ℕ → List Access
+touchedIn answer = accessesIn (getD answer 4 0) answer 5
+
+-- where 0 is returned, the states in answer[3] are the fetch and internal states of the instruction and the sum over the accesses that are told
+abbrev pub StepSummed : List ℕ → List ℕ → List ℕ → ℕ → List ℕ → Type 0
+StepSummed board rom regs returned answer =
+    (i : Instruction) (n : ℕ) → returned ≡ 0 → decodeOf (registersOf regs .pc) (drop (registersOf regs .pc) rom) ≡ Code i n
+    → getD answer 3 0 ≡ baseOf i + sumOf (boardOf board .site) (touchedIn answer)
+
+-- whatever is returned, a byte of working memory that no write of those accesses reaches has not changed
+abbrev pub StepSpares : List ℕ → List ℕ → List ℕ → List ℕ → Type 0
+StepSpares board ram ram′ answer = Spares (boardOf board) ram ram′ (touchedIn answer)
 
 -- ---- h8_run
 

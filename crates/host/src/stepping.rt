@@ -8,7 +8,7 @@ ghost use Rattle.arith.specs.Widths.{num};
 ghost use Rattle.refusal.specs.declared.Outcome.the-variants.{Refused};
 ghost use Rattle.watch.specs.Watch.{listIn};
 ghost use Rattle.host.specs.Answers.{noted, tell};
-ghost use Rattle.host.specs.Steps.{left, stepLength, touched, stepAnswer, stepCall, runAnswer, runLeft, runCall};
+ghost use Rattle.host.specs.Steps.{left, stepLength, touched, stepAnswer, stepCall, StepSummed, StepSpares, runAnswer, runLeft, runCall};
 ghost use Rattle.host.specs.MirrorSteps.{kept, noEntry, three, thirteen, stepTold, stepLent, runTold};
 ghost use Rattle.layout.specs.Board.{boardOf};
 ghost use Rattle.layout.specs.Registers.{registersLength, registersOf};
@@ -111,7 +111,9 @@ fn tell_step(q: StepAnswer, l: Listed, regs: &mut [u32], answer: &mut [u32]) -> 
 
 fn step_lent(board: &[u32], rom: &[u8], ram: &mut [u8], regs: &mut [u32], answer: &mut [u32]) -> u32
     requires { ⌜ (registersLength ≤ length (now regs)) × (stepLength ≤ length (now answer)) ⌝ }
-    ensures { λ n. ⌜ left n (now (ram .exit)) (now (regs .exit)) (now (answer .exit)) ≡ stepLent (now (board .entry)) (now (rom .entry)) (now (ram .entry)) (now (regs .entry)) (now (answer .entry)) ⌝ }
+    ensures did { λ n. ⌜ left n (now (ram .exit)) (now (regs .exit)) (now (answer .exit)) ≡ stepLent (now (board .entry)) (now (rom .entry)) (now (ram .entry)) (now (regs .entry)) (now (answer .entry)) ⌝ }
+    ensures sum { λ n. ⌜ StepSummed (now (board .entry)) (now (rom .entry)) (now (regs .entry)) n (now (answer .exit)) ⌝ }
+    ensures spares { λ n. ⌜ StepSpares (now (board .entry)) (now (ram .entry)) (now (ram .exit)) (now (answer .exit)) ⌝ }
 {
     let b = lent::board_in(board);
     let w = watch::single(b, rom, ram, lent::registers_in(&regs[..]));
@@ -128,7 +130,9 @@ pub extern "C" fn h8_step(
     regs: &mut [u32],
     answer: &mut [u32],
 ) -> u32
-    ensures { λ n. ⌜ left n (now (ram .exit)) (now (regs .exit)) (now (answer .exit)) ≡ stepCall (now (board .entry)) (now (rom .entry)) (now (ram .entry)) (now (regs .entry)) (now (answer .entry)) ⌝ }
+    ensures call { λ n. ⌜ left n (now (ram .exit)) (now (regs .exit)) (now (answer .exit)) ≡ stepCall (now (board .entry)) (now (rom .entry)) (now (ram .entry)) (now (regs .entry)) (now (answer .entry)) ⌝ }
+    ensures sum { λ n. ⌜ StepSummed (now (board .entry)) (now (rom .entry)) (now (regs .entry)) n (now (answer .exit)) ⌝ }
+    ensures spares { λ n. ⌜ StepSpares (now (board .entry)) (now (ram .entry)) (now (ram .exit)) (now (answer .exit)) ⌝ }
 {
     if answer.len() < STEP_ANSWER {
         return 13;

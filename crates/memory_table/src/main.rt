@@ -48,7 +48,8 @@ fn try_read(w: Width, base: u32, rom: &[u8], ram: &[u8], a: u32) {
     io::write_all(1, b"read ");
     show_width(w);
     io::print_hex(1, a as u64, 8);
-    match memory::read(w, memory::plain(base), rom, ram, a) {
+    let mut trail: u64 = 0;
+    match memory::read(w, memory::plain(base), rom, ram, a, &mut trail) {
         Got::Value(x) => {
             io::write_all(1, b": ");
             io::print_hex(1, x as u64, digits(w));
@@ -64,7 +65,8 @@ fn try_write(w: Width, base: u32, ram: &mut [u8], a: u32, x: u32) {
     io::print_hex(1, a as u64, 8);
     io::write_all(1, b" ");
     io::print_hex(1, x as u64, 8);
-    match memory::write(w, memory::plain(base), ram, a, x) {
+    let mut trail: u64 = 0;
+    match memory::write(w, memory::plain(base), ram, a, x, &mut trail) {
         Put::Stored => {
             io::write_all(1, b": stored");
         }

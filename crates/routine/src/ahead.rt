@@ -25,7 +25,7 @@ fn aim(t: Target, b: Board, rom: &[u8], ram: &[u8]) -> bool
     match t {
         Target::ByReg(_) => true,
         Target::Direct(_) => true,
-        Target::Vector(a) => was_read(memory::read(Width::Long, b, rom, ram, a as u32)),
+        Target::Vector(a) => was_read(memory::look(Width::Long, b, rom, ram, a as u32)),
     }
 }
 

@@ -13,11 +13,13 @@ use Rattle.refusal.specs.declared.Outcome.the-variants.{Done, Refused}
 use Rattle.registers.specs.declared.Registers.{Registers}
 use Rattle.memory.specs.Board.{goodBoard}
 use Rattle.memory.specs.declared.Board.{Board}
-use Rattle.step.specs.Step.{After, after, answered, goodPc, goodStart, stepOf}
-use Rattle.step.proofs.Laws.{step-refused, step-states}
+use Rattle.step.specs.Step.{After, after, answered, goodPc, goodStart, fetchOf, stepOf}
+use Rattle.step.proofs.Laws.{step-is, step-refused, step-states, fetch-keeps}
 use Rattle.run.specs.Run.{Ran, ran, told, onward, runFrom, runOf}
 use Rattle.run.proofs.Turns.{both, pc-fits}
 use Rattle.run.specs.MirrorSingle.{outcomeOf}
+use Rattle.run.specs.MirrorTrail.{trailAt, Tells}
+use Rattle.run.specs.declared.Traced.{Traced}
 use Rattle.run.specs.declared.Ending.the-variants.{AtStop, Spent, Halted}
 
 -- the step's answer, read off the run's
@@ -67,3 +69,44 @@ module _ (b : Board) (rom ram : List ℕ) (r : Registers) where
 
   pub single-is : one (runOf b rom ram r 1 1) ≡ stepOf b rom ram r
   single-is = by-board _ refl
+
+  -- a step that was done was one of one, which spent the budget: PC is even after it
+  stays-even : goodStart b rom ram r ≡ true → stepOf b rom ram r .answer .outcome ≡ Done → eqb (stepOf b rom ram r .answer .regs .pc) 1 ≡ false
+  stays-even g d =
+      let h = both (goodBoard b (length rom) (length ram)) (goodPc (r .pc)) g in
+      let e = step-is r b rom ram (h .0) (h .1) in
+      let k = fetch-keeps r b rom ram (rw e at d) in
+      let u = pc-fits true (fetchOf r b rom ram .answer .regs .pc) (k .pc-good) in
+      rw e (ne-eqb (fetchOf r b rom ram .answer .regs .pc) 1 (λ z. absurd (omega (arith, u .1, z))))
+
+  abbrev Once : Ran → Type 0
+  Once x = outcomeOf (x .answer .why) ≡ Done → (x .answer .why ≡ Spent) × (x .answer .steps ≡ 1)
+
+  ends : goodStart b rom ram r ≡ true → (o : Outcome) → stepOf b rom ram r .answer .outcome ≡ o
+      → Once (onward o (runFrom b rom 1 0 (stepOf b rom ram r .mem) (stepOf b rom ram r .answer .regs) (0 + 1) (0 + stepOf b rom ram r .answer .states)) (λ f. ran (told r 0 0 (Halted f)) (stepOf b rom ram r .mem)))
+  unfolding runFrom
+  ends g Done d = rw (stays-even g d) (λ h. (refl, refl))
+  ends g (Refused f) d = λ h. let z : _≡_ {A = ℕ} 0 1 = cc in absurd (omega arith)
+
+  went : goodStart b rom ram r ≡ true → Once (runFrom b rom 1 1 ram r 0 0)
+  unfolding runFrom
+  went g = rw (off (both (goodBoard b (length rom) (length ram)) (goodPc (r .pc)) g .1)) (ends g _ refl)
+
+  stood : goodStart b rom ram r ≡ false → Once (runOf b rom ram r 1 1)
+  unfolding runOf
+  stood g = rw g (λ h. let z : _≡_ {A = ℕ} 0 1 = cc in absurd (omega arith))
+
+  spends : (t : Bool) → goodStart b rom ram r ≡ t → Once (runOf b rom ram r 1 1)
+  spends true g = rw (started g) (went g)
+  spends false g = stood g
+
+  pub one-spent : Once (runOf b rom ram r 1 1)
+  one-spent = spends _ refl
+
+-- so its trail is that of the step
+pub one-told : (b : Board) (rom ram ram′ : List ℕ) (r : Registers) (q : Traced) → ran (q .answer) ram′ ≡ runOf b rom ram r 1 1 → Tells b rom r q
+    → outcomeOf (q .answer .why) ≡ Done → q .touched ≡ trailAt rom r
+one-told b rom ram ram′ r q e t d =
+    let (w, s) = (rw (← e) at (one-spent b rom ram r)) d in
+    let l = t w (λ z. absurd (omega (arith, s, z))) in
+    l .tells ∙ ap (λ (x : Registers). trailAt rom x) (l .only s)

@@ -9,7 +9,9 @@ use lib.Dec.{eqb, ltb}
 use lib.ListN.{length}
 use Rattle.refusal.specs.declared.Refusal.{Refusal}
 use Rattle.refusal.specs.declared.Refusal.the-variants.{FetchOutside, UnknownCode}
+use Rattle.codes.specs.declared.Decoded.{Decoded}
 use Rattle.codes.specs.declared.Decoded.the-variants.{NoCode}
+use Rattle.moves.specs.Made.{trailOf}
 use Rattle.refusal.specs.declared.Outcome.the-variants.{Done, Refused}
 use Rattle.registers.specs.declared.Condition.{Condition}
 use Rattle.registers.specs.declared.Registers.{Registers}
@@ -22,11 +24,12 @@ use Rattle.step.specs.Step.{After, after, answered, stays, actOf, goodPc, goodS
 use Rattle.step.specs.declared.StepAnswer.{StepAnswer}
 use Rattle.step.proofs.Laws.{Kept, fetch-keeps, fetch-refused}
 use Rattle.turns.specs.declared.Turn.{Turn}
-use Rattle.turns.specs.MirrorTurn.{toldAs, toldIn}
+use Rattle.turns.specs.MirrorTurn.{toldAs, toldIn, touchedBy}
 use Rattle.turns.proofs.Laws.{told-done, told-refused}
 use Rattle.run.specs.MirrorKept.{Means}
 use Rattle.run.specs.Run.{ran, told}
 use Rattle.run.specs.MirrorAlong.{straysOf, alongFrom}
+use Rattle.run.specs.MirrorTrail.{trailAt}
 use Rattle.run.specs.declared.Ending.the-variants.{AtStop, Spent, Halted}
 
 -- ---- a kind that is not there
@@ -76,6 +79,13 @@ module _ (r : Registers) (b : Board) (rom ram : List ℕ) where
     unfolding meaningOf
     by-kind k h a w = let g : actOf (byKind (r .pc) (e / 16 % 32) (e % 16) (e / 512)) r b rom ram ≡ fetchOf r b rom ram = fetched in w ∙ rw h at g
 
+    -- and what it noted is what the instruction at PC touches
+    pub by-trail : (k : ℕ) → e / 16 % 32 ≡ k → (t : ℕ) → t ≡ trailOf r 0 (touchedBy (byKind (r .pc) k (e % 16) (e / 512))) → t ≡ trailAt rom r
+    unfolding meaningOf
+    by-trail k h t w =
+        let g : trailOf r 0 (touchedBy (byKind (r .pc) (e / 16 % 32) (e % 16) (e / 512))) ≡ trailAt rom r = ap (λ (d : Decoded). trailOf r 0 (touchedBy d)) m in
+        w ∙ rw h at g
+
 -- ---- what the turn left: er and m after it
 
 module _ (er₀ er : List ℕ) (pc : ℕ) (f : Condition) (t : Turn) (b : Board) (rom ram m : List ℕ) (e : after (toldIn er pc t) m ≡ fetchOf (lent er₀ pc f) b rom ram) where
@@ -101,6 +111,15 @@ module _ (er₀ er : List ℕ) (pc : ℕ) (f : Condition) (t : Turn) (b : Board)
     turn-refused = rw same-memory (sym step-stays)
 
 -- ---- the run
+
+pub as-done : {t u : Turn} → t ≡ u → t .outcome ≡ Done → u .outcome ≡ Done
+as-done e o = ap (λ (x : Turn). x .outcome) (sym e) ∙ o
+
+pub not-stopped : AtStop ≡ Spent → ⊥
+not-stopped h = let z : _≡_ {A = ℕ} 0 1 = cc in omega arith
+
+pub not-halted : {f : Refusal} → Halted f ≡ Spent → ⊥
+not-halted h = let z : _≡_ {A = ℕ} 0 1 = cc in omega arith
 
 pub both : (p q : Bool) → p && q ≡ true → (p ≡ true) × (q ≡ true)
 both true true e = (refl, refl)
@@ -139,7 +158,7 @@ module _ (b : Board) (rom : List ℕ) (stop : ℕ) (w ram : List ℕ) (r : Regis
     strayed h = rw (left, ne-eqb _ _ off, h)
 
   module _ (good : goodStart b rom ram r ≡ true) (a : StepAnswer) (m : List ℕ) (e : after a m ≡ fetchOf r b rom ram) where
-    step-is : stepOf b rom ram r ≡ after a m
+    pub step-is : stepOf b rom ram r ≡ after a m
     unfolding stepOf
     step-is = rw good (sym e)
 

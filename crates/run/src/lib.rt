@@ -7,10 +7,12 @@ use step::StepAnswer;
 ghost use mathlib.Core.Path.{_≡_};
 ghost use mathlib.Core.Bool.{true, _&&_};
 ghost use Prim.Native.Nat.{_%_, _≤_};
+ghost use Rattle.refusal.specs.declared.Outcome.the-variants.{Done};
 ghost use Rattle.step.specs.Step.{after, answered, goodStart, stepOf};
 ghost use Rattle.run.specs.MirrorAlong.{Covers, alongFrom, startOf, fewerOf, alongOf};
 ghost use Rattle.run.specs.MirrorKept.{Keeps};
 ghost use Rattle.run.specs.MirrorSingle.{outcomeOf};
+ghost use Rattle.run.specs.MirrorTrail.{traced, trailAt, Tells};
 ghost use Rattle.run.specs.Run.{ran, told, runOf};
 
 mod beside;
@@ -30,14 +32,30 @@ pub struct RunAnswer {
     pub why: Ending,
 }
 
-fn answer(r: Registers, steps: u32, states: u64, why: Ending) -> RunAnswer
-    ensures { λ q. ⌜ q ≡ told r steps states why ⌝ }
+// A run, and what its last step noted.
+struct Traced {
+    answer: RunAnswer,
+    touched: u64,
+}
+
+// A step, and what it noted: memory::told unpacks it.
+pub struct Told {
+    pub answer: StepAnswer,
+    pub touched: u64,
+}
+
+fn answer(r: Registers, steps: u32, states: u64, why: Ending) -> Traced
+    ensures { λ q. ⌜ q ≡ traced (told r steps states why) 0 ⌝ }
 {
-    RunAnswer {
+    let a = RunAnswer {
         regs: r,
         steps: steps,
         states: states,
         why: why,
+    };
+    Traced {
+        answer: a,
+        touched: 0,
     }
 }
 
@@ -54,15 +72,17 @@ fn repeat(
     budget: u32,
     records: &[u8],
     before: u32,
-) -> RunAnswer
+) -> Traced
     requires { ⌜ (budget ≤ 1000000) × (goodStart b (now rom) (now ram) r ≡ true) × Keeps (now rom) (now lines) × Covers (now records) budget ⌝ }
-    ensures { λ q. ⌜ ran q (now (ram .exit)) ≡ alongFrom b (now (rom .entry)) stop (now (records .entry)) budget (now (ram .entry)) r 0 before ⌝ }
+    ensures did { λ q. ⌜ ran (q .answer) (now (ram .exit)) ≡ alongFrom b (now (rom .entry)) stop (now (records .entry)) budget (now (ram .entry)) r 0 before ⌝ }
+    ensures told { λ q. ⌜ Tells b (now (rom .entry)) r q ⌝ }
 {
     let mut er = r.er;
     let mut pc = r.pc;
     let mut f = r.condition;
     let mut steps: u32 = 0;
     let mut states: u64 = before as u64;
+    let mut trail: u64 = 0;
     let why = loop {
         if pc == stop {
             break Ending::AtStop;
@@ -80,6 +100,7 @@ fn repeat(
         let e = kept::look(lines, rom, at);
         let k = (e % 16) as u8;
         let x = e / 512;
+        trail = 0;
         let t = match e / 16 % 32 {
             0 => execute::reg_byte(k, x, pc, &mut er, f),
             1 => execute::reg_word(k, x, pc, &mut er, f),
@@ -90,17 +111,17 @@ fn repeat(
             6 => execute::counted(k, x, pc, &mut er, f),
             7 => execute::turned(k, x, pc, &mut er, f),
             8 => execute::turned_long(k, x, pc, &mut er, f),
-            9 => transfer::single(k, x, pc, &mut er, f, b, rom, &ram[..]),
-            10 => transfer::moving::byte(k, x, pc, &mut er, f, b, rom, ram),
-            11 => transfer::moving::word(k, x, pc, &mut er, f, b, rom, ram),
-            12 => transfer::moving::long(k, x, pc, &mut er, f, b, rom, ram),
+            9 => transfer::single(k, x, pc, &mut er, f, b, rom, &ram[..], &mut trail),
+            10 => transfer::moving::byte(k, x, pc, &mut er, f, b, rom, ram, &mut trail),
+            11 => transfer::moving::word(k, x, pc, &mut er, f, b, rom, ram, &mut trail),
+            12 => transfer::moving::long(k, x, pc, &mut er, f, b, rom, ram, &mut trail),
             13 => execute::branch_near(k, x, pc, f),
             14 => execute::branch_far(k, x, pc, f),
-            15 => transfer::jump(k, x, pc, &mut er, f, b, rom, ram),
+            15 => transfer::jump(k, x, pc, &mut er, f, b, rom, ram, &mut trail),
             16 => bitturns::take(k, x, pc, &er, f),
             17 => bitturns::give(k, x, pc, &mut er, f),
-            18 => bitturns::take_at(k, x, pc, &er, f, b, rom, &ram[..]),
-            19 => bitturns::give_at(k, x, pc, &er, f, b, rom, ram),
+            18 => bitturns::take_at(k, x, pc, &er, f, b, rom, &ram[..], &mut trail),
+            19 => bitturns::give_at(k, x, pc, &er, f, b, rom, ram, &mut trail),
             _ => turns::refuse(f, Refusal::UnknownCode(pc)),
         };
         let o = t.outcome;
@@ -120,11 +141,15 @@ fn repeat(
         pc: pc,
         condition: f,
     };
-    RunAnswer {
+    let a = RunAnswer {
         regs: q,
         steps: steps,
         states: states,
         why: why,
+    };
+    Traced {
+        answer: a,
+        touched: trail,
     }
 }
 
@@ -139,9 +164,10 @@ fn start(
     budget: u32,
     records: &[u8],
     before: u32,
-) -> RunAnswer
+) -> Traced
     requires { ⌜ Keeps (now rom) (now lines) × Covers (now records) budget ⌝ }
-    ensures { λ q. ⌜ ran q (now (ram .exit)) ≡ startOf b (now (rom .entry)) (now (ram .entry)) r stop budget (now (records .entry)) before ⌝ }
+    ensures did { λ q. ⌜ ran (q .answer) (now (ram .exit)) ≡ startOf b (now (rom .entry)) (now (ram .entry)) r stop budget (now (records .entry)) before ⌝ }
+    ensures told { λ q. ⌜ Tells b (now (rom .entry)) r q ⌝ }
 {
     if 1000000 < budget {
         return answer(r, 0, before as u64, Ending::Halted(Refusal::BudgetTooLarge));
@@ -157,7 +183,8 @@ pub fn run(b: Board, rom: &[u8], ram: &mut [u8], r: Registers, stop: u32, budget
 {
     let mut lines: [u64; 256] = [0; 256];
     let none: [u8; 0] = [0; 0];
-    start(b, rom, &mut lines, ram, r, stop, budget, &none, 0)
+    let k = start(b, rom, &mut lines, ram, r, stop, budget, &none, 0);
+    k.answer
 }
 
 fn fewer(n: usize, m: u32) -> u32
@@ -183,7 +210,8 @@ pub fn along(
 {
     let mut lines: [u64; 256] = [0; 256];
     let n = fewer(records.len() / 11, budget);
-    start(b, rom, &mut lines, ram, r, 1, n, records, before)
+    let k = start(b, rom, &mut lines, ram, r, 1, n, records, before);
+    k.answer
 }
 
 fn outcome(why: Ending) -> Outcome
@@ -208,13 +236,26 @@ fn ended(q: Registers, states: u64, why: Ending) -> StepAnswer
 }
 
 // One step: a run of one, that keeps nothing. The stop address is odd, and PC is not.
-pub fn single(b: Board, rom: &[u8], ram: &mut [u8], r: Registers) -> StepAnswer
-    ensures { λ q. ⌜ after q (now (ram .exit)) ≡ stepOf b (now (rom .entry)) (now (ram .entry)) r ⌝ }
+pub fn watched(b: Board, rom: &[u8], ram: &mut [u8], r: Registers) -> Told
+    ensures did { λ q. ⌜ after (q .answer) (now (ram .exit)) ≡ stepOf b (now (rom .entry)) (now (ram .entry)) r ⌝ }
+    ensures told { λ q. ⌜ (q .answer .outcome ≡ Done → q .touched ≡ trailAt (now (rom .entry)) r) ⌝ }
 {
     let mut lines: [u64; 0] = [0; 0];
     let none: [u8; 0] = [0; 0];
-    let a = start(b, rom, &mut lines, ram, r, 1, 1, &none, 0);
+    let k = start(b, rom, &mut lines, ram, r, 1, 1, &none, 0);
+    let a = k.answer;
     let q = a.regs;
     let why = a.why;
-    ended(q, a.states, why)
+    let s = ended(q, a.states, why);
+    Told {
+        answer: s,
+        touched: k.touched,
+    }
+}
+
+pub fn single(b: Board, rom: &[u8], ram: &mut [u8], r: Registers) -> StepAnswer
+    ensures { λ q. ⌜ after q (now (ram .exit)) ≡ stepOf b (now (rom .entry)) (now (ram .entry)) r ⌝ }
+{
+    let t = watched(b, rom, ram, r);
+    t.answer
 }

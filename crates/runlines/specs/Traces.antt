@@ -1,10 +1,8 @@
 -- What `h8 run --trace` says of a step: its place, text and states, and the data accesses that it made, in the order made.
 use Prim.Native.Nat.{ℕ}
-use mathlib.Core.Bool.{Bool, true, cond}
+use mathlib.Core.Bool.{Bool, true, false, cond}
 use mathlib.Core.List.{List, [], _∷_, _++_}
-use Rattle.codes.specs.declared.Dir.{Dir}
-use Rattle.codes.specs.declared.Dir.the-variants.{Load, Store}
-use Rattle.timing.specs.Made.{Access}
+use Rattle.memory.specs.declared.told.Access.{Access}
 use Rattle.listing.specs.Listing.{decodedAt}
 use Rattle.text.specs.Lines.{ascii}
 use Rattle.text.specs.Numbers.{hexOf, placeOf, decimalOf}
@@ -12,20 +10,20 @@ use Rattle.wording.specs.Standing.{foundText}
 use Rattle.wording.specs.Parts.{numberLine, placeLine, padTo}
 
 -- `R2 H'FFEF10`: a read of two bytes. W: a write
-abbrev pub wayWords : Dir → List ℕ
-wayWords Load = ascii "  R"
-wayWords Store = ascii "  W"
+abbrev pub wayWords : Bool → List ℕ
+wayWords false = ascii "  R"
+wayWords true = ascii "  W"
 
 abbrev pub accessWords : Access → List ℕ
-accessWords x = wayWords (x .dir) ++ (decimalOf (x .bytes) ++ (ascii " H'" ++ hexOf true 6 (x .place)))
+accessWords x = wayWords (x .write) ++ (decimalOf (x .bytes) ++ (ascii " H'" ++ hexOf true 6 (x .place)))
 
 -- `read 2 0xffef10`
-abbrev pub wayPlain : Dir → List ℕ
-wayPlain Load = ascii "read "
-wayPlain Store = ascii "write "
+abbrev pub wayPlain : Bool → List ℕ
+wayPlain false = ascii "read "
+wayPlain true = ascii "write "
 
 abbrev pub accessPlain : Access → List ℕ
-accessPlain x = wayPlain (x .dir) ++ (decimalOf (x .bytes) ++ (ascii " " ++ (placeOf (x .place) ++ ascii "\n")))
+accessPlain x = wayPlain (x .write) ++ (decimalOf (x .bytes) ++ (ascii " " ++ (placeOf (x .place) ++ ascii "\n")))
 
 unfoldable pub accessText : Bool → Access → List ℕ
 accessText plain x = cond plain (accessPlain x) (accessWords x)

@@ -1,9 +1,6 @@
 // h8 run --trace: a step's place, text and states, and the data accesses that it made.
 ghost use mathlib.Core.Path.{_≡_};
-ghost use mathlib.Core.Bool.{cond};
 ghost use mathlib.Core.List.{[], _∷_};
-ghost use Rattle.codes.specs.declared.Dir.the-variants.{Load, Store};
-ghost use Rattle.watch.specs.Told.{entryOf};
 ghost use Rattle.watch.specs.Watch.{listIn};
 ghost use Rattle.text.specs.Lines.{none, Adds};
 ghost use Rattle.runlines.specs.Traces.{wayWords, accessWords, wayPlain, accessPlain, accessText, accessesText, tracedWords, tracedPlain, steppedText, endText, tracedText, traceHeading};
@@ -13,7 +10,7 @@ use watch::Listed;
 use wording::parts;
 
 fn way_words(mut l: Line, write: bool) -> Line
-    ensures { λ r. ⌜ Adds l (wayWords (cond write Store Load)) r ⌝ }
+    ensures { λ r. ⌜ Adds l (wayWords write) r ⌝ }
 {
     l = text::put(l, b' ');
     l = text::put(l, b' ');
@@ -25,7 +22,7 @@ fn way_words(mut l: Line, write: bool) -> Line
 }
 
 fn way_plain(l: Line, write: bool) -> Line
-    ensures { λ r. ⌜ Adds l (wayPlain (cond write Store Load)) r ⌝ }
+    ensures { λ r. ⌜ Adds l (wayPlain write) r ⌝ }
 {
     if write {
         text::bytes(l, b"write ")
@@ -35,7 +32,7 @@ fn way_plain(l: Line, write: bool) -> Line
 }
 
 fn access_words(mut l: Line, x: Access) -> Line
-    ensures { λ r. ⌜ Adds l (accessWords (entryOf x)) r ⌝ }
+    ensures { λ r. ⌜ Adds l (accessWords x) r ⌝ }
 {
     l = way_words(l, x.write);
     l = text::decimal(l, x.bytes as u64);
@@ -46,7 +43,7 @@ fn access_words(mut l: Line, x: Access) -> Line
 }
 
 fn access_plain(mut l: Line, x: Access) -> Line
-    ensures { λ r. ⌜ Adds l (accessPlain (entryOf x)) r ⌝ }
+    ensures { λ r. ⌜ Adds l (accessPlain x) r ⌝ }
 {
     l = way_plain(l, x.write);
     l = text::decimal(l, x.bytes as u64);
@@ -56,7 +53,7 @@ fn access_plain(mut l: Line, x: Access) -> Line
 }
 
 fn one(l: Line, x: Access, plain: bool) -> Line
-    ensures { λ r. ⌜ Adds l (accessText plain (entryOf x)) r ⌝ }
+    ensures { λ r. ⌜ Adds l (accessText plain x) r ⌝ }
 {
     if plain {
         access_plain(l, x)
@@ -67,21 +64,21 @@ fn one(l: Line, x: Access, plain: bool) -> Line
 
 // The last two of them, and with one or two before them.
 fn last_two(mut l: Line, x: Access, y: Access, plain: bool) -> Line
-    ensures { λ r. ⌜ Adds l (accessesText plain (entryOf x ∷ entryOf y ∷ [])) r ⌝ }
+    ensures { λ r. ⌜ Adds l (accessesText plain (x ∷ y ∷ [])) r ⌝ }
 {
     l = one(l, x, plain);
     one(l, y, plain)
 }
 
 fn last_three(l: Line, x: Access, y: Access, z: Access, plain: bool) -> Line
-    ensures { λ r. ⌜ Adds l (accessesText plain (entryOf x ∷ entryOf y ∷ entryOf z ∷ [])) r ⌝ }
+    ensures { λ r. ⌜ Adds l (accessesText plain (x ∷ y ∷ z ∷ [])) r ⌝ }
 {
     let a = one(l, x, plain);
     last_two(a, y, z, plain)
 }
 
 fn last_four(l: Line, x: Access, y: Access, z: Access, t: Access, plain: bool) -> Line
-    ensures { λ r. ⌜ Adds l (accessesText plain (entryOf x ∷ entryOf y ∷ entryOf z ∷ entryOf t ∷ [])) r ⌝ }
+    ensures { λ r. ⌜ Adds l (accessesText plain (x ∷ y ∷ z ∷ t ∷ [])) r ⌝ }
 {
     let a = one(l, x, plain);
     last_three(a, y, z, t, plain)

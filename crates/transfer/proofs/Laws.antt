@@ -2,7 +2,7 @@
 use Prim.Native.Nat.{ℕ, _+_, _/_, _%_}
 use mathlib.Core.Path.{_≡_, refl, sym, ap}
 use mathlib.Core.Bool.{Bool, true, false, cond}
-use mathlib.Core.List.{List, []}
+use mathlib.Core.List.{List, [], _∷_}
 use lib.Dec.{eqb}
 use Rattle.arith.specs.declared.Width.{Width}
 use Rattle.arith.specs.declared.Width.the-variants.{Long}
@@ -17,7 +17,7 @@ use Rattle.operate.specs.declared.Deed.{Deed}
 use Rattle.operate.specs.MirrorLent.{effectIn}
 use Rattle.operate.specs.Results.{Effect}
 use Rattle.timing.specs.Made.{madeAt, sumOf, baseOf}
-use Rattle.moves.specs.Made.{statesAt}
+use Rattle.moves.specs.Made.{trailOf, statesAt}
 use Rattle.moves.proofs.States.{states-once, states-twice, stored-where, pushed-where}
 use Rattle.moves.specs.Moves.{stepped, addressOf, stepOver, loadOf, storeOf, pushOf}
 use Rattle.flow.specs.Targets.{nextOf}
@@ -37,7 +37,7 @@ use Rattle.codes.specs.declared.Decoded.{Decoded}
 use Rattle.codes.specs.declared.Decoded.the-variants.{Code}
 use Rattle.step.specs.Follow.{followOf}
 use Rattle.step.specs.Step.{after, effectOf, transferOf, carryOf, obeyOf, actOf}
-use Rattle.turns.specs.MirrorTurn.{endedOf, toldIn, TurnsOn}
+use Rattle.turns.specs.MirrorTurn.{endedOf, toldIn, TurnsOn, touchedBy}
 use Rattle.turns.proofs.Laws.{ended-told, ended-taking}
 use Rattle.entry.specs.Entry.{moveBy}
 use Rattle.transfer.specs.declared.moving.Aim.{Aim}
@@ -148,3 +148,30 @@ module _ (dir : Dir) (w : Width) (er : List ℕ) (pc : ℕ) (f : Condition) (b :
         (both (eqb k 3) _ _ _ _ (row (Abs8 (x % 256)) (x / 256 % m) _ n _ s (λ way. refl) (low _) refl (abs8 _))
         (both (eqb k 4) _ _ _ _ (row (Abs16 (x % 65536)) (y % m) _ (n + 2) _ (s + 2) (λ way. refl) (low y) refl (abs16 _))
         (row (Abs24 (x % 16777216)) (x / 16777216 % m) _ (n + 4) _ (s + 4) (λ way. refl) (low _) refl (abs24 _))))))
+
+-- and it touches what its place says
+module _ (dir : Dir) (w : Width) (er : List ℕ) (pc : ℕ) (f : Condition) (t : ℕ) where
+  abbrev Notes-as : Decoded → ℕ → Type 0
+  Notes-as c a = trailOf (lent er pc f) t (touch dir w (Abs24 a) ∷ []) ≡ trailOf (lent er pc f) t (touchedBy c)
+
+  noted-at : (g : Dir) (p : Place) (a : ℕ) → ((way : Way) → stepOver way w p (lent er pc f) ≡ lent er pc f) → a ≡ addressOf p (lent er pc f)
+      → trailOf (lent er pc f) t (touch g w (Abs24 a) ∷ []) ≡ trailOf (lent er pc f) t (touch g w p ∷ [])
+  unfolding addressOf stepOver
+  noted-at Load p a h e = rw e
+  noted-at Store p a h e = rw (e, h Down)
+
+  either : (b : Bool) (c c′ : Decoded) (a a′ : Aim) → Notes-as c (a .address) → Notes-as c′ (a′ .address) → Notes-as (cond b c c′) (cond b a a′ .address)
+  either true c c′ a a′ h k = h
+  either false c c′ a a′ h k = k
+
+  pub aimed-trail : (m n s x at : ℕ) → ((y : ℕ) → highOf m y ≡ y / m % 8) → (k : ℕ) → eqb k 1 ≡ false
+      → Notes-as (moveBy k dir w m n x) (aimIn k m x at n s er .address)
+  unfolding moveBy aimIn addressOf partOf stepOver
+  aimed-trail m n s x at high k h =
+      let y = x / 65536 in
+      rw h
+      (either (eqb k 0) _ _ _ _ (noted-at dir (At (x / m % 8)) _ (λ way. refl) (rw (high x)))
+      (either (eqb k 2) _ _ _ _ (noted-at dir (Disp (y / m % 8) (x % 65536)) _ (λ way. refl) (rw (high y)))
+      (either (eqb k 3) _ _ _ _ (noted-at dir (Abs8 (x % 256)) _ (λ way. refl) refl)
+      (either (eqb k 4) _ _ _ _ (noted-at dir (Abs16 (x % 65536)) _ (λ way. refl) refl)
+      (noted-at dir (Abs24 (x % 16777216)) _ (λ way. refl) refl)))))

@@ -8,10 +8,12 @@ ghost use mathlib.Core.Path.{_≡_};
 ghost use Prim.Native.Nat.{_/_, _%_};
 ghost use Rattle.arith.specs.declared.Width.the-variants.{Byte, Word, Long};
 ghost use Rattle.arith.specs.Logic.{extsOf};
-ghost use Rattle.codes.specs.declared.Place.the-variants.{Step};
+ghost use mathlib.Core.List.{[], _∷_};
+ghost use Rattle.codes.specs.Cycles.{touch};
+ghost use Rattle.codes.specs.declared.Place.the-variants.{Step, Abs24};
 ghost use Rattle.codes.specs.declared.Instruction.the-variants.{Move};
 ghost use Rattle.codes.specs.declared.Decoded.the-variants.{Code};
-ghost use Rattle.turns.specs.MirrorTurn.{TurnsOn};
+ghost use Rattle.turns.specs.MirrorTurn.{TurnsOn, Trails, touchedBy};
 ghost use Rattle.entry.specs.Entry.{dirOf, moved};
 ghost use Rattle.transfer.specs.MirrorTransfer.{lowOf, highOf, displacedOf, aim, aimIn, Transfers};
 
@@ -118,18 +120,20 @@ fn step_byte(
     b: Board,
     rom: &[u8],
     ram: &mut [u8],
+    trail: &mut u64,
 ) -> Turn
-    ensures { λ t. ⌜ TurnsOn (Code (Move (dirOf k) Byte (Step (x / 16 % 8)) (x % 16)) 2) (now (er .entry)) (now (er .exit)) pc f b (now (rom .entry)) (now (ram .entry)) (now (ram .exit)) t ⌝ }
+    ensures did { λ t. ⌜ TurnsOn (Code (Move (dirOf k) Byte (Step (x / 16 % 8)) (x % 16)) 2) (now (er .entry)) (now (er .exit)) pc f b (now (rom .entry)) (now (ram .entry)) (now (ram .exit)) t ⌝ }
+    ensures told { λ t. ⌜ Trails (touch (dirOf k) Byte (Step (x / 16 % 8)) ∷ []) (now (er .entry)) f (now (trail .entry)) (now (trail .exit)) t ⌝ }
 {
     let e = (x / 16 % 8) as u8;
     let r = (x % 16) as u8;
     let next = flow::next(pc, 2);
     if k < 8 {
         let at = registers::get(Width::Long, er, e);
-        let d = moves::pop(Width::Byte, e, r, er, f, b, rom, &ram[..]);
+        let d = moves::pop(Width::Byte, e, r, er, f, b, rom, &ram[..], trail);
         turns::ended(d, next, 4 + timing::access(b.site, Width::Byte, at))
     } else {
-        let d = moves::push(Width::Byte, e, r, er, f, b, ram);
+        let d = moves::push(Width::Byte, e, r, er, f, b, ram, trail);
         let at = registers::get(Width::Long, er, e);
         turns::ended(d, next, 4 + timing::access(b.site, Width::Byte, at))
     }
@@ -143,19 +147,31 @@ fn transfer_byte(
     b: Board,
     rom: &[u8],
     ram: &mut [u8],
+    trail: &mut u64,
 ) -> Turn
-    ensures { λ t. ⌜ Transfers (dirOf k) Byte a (now (er .entry)) (now (er .exit)) f b (now (rom .entry)) (now (ram .entry)) (now (ram .exit)) t ⌝ }
+    ensures did { λ t. ⌜ Transfers (dirOf k) Byte a (now (er .entry)) (now (er .exit)) f b (now (rom .entry)) (now (ram .entry)) (now (ram .exit)) t ⌝ }
+    ensures told { λ t. ⌜ Trails (touch (dirOf k) Byte (Abs24 (a .address)) ∷ []) (now (er .entry)) f (now (trail .entry)) (now (trail .exit)) t ⌝ }
 {
     let n = a.states as u32 + timing::access(b.site, Width::Byte, a.address);
     if k < 8 {
         turns::ended(
-            moves::load(Width::Byte, a.address, a.register, er, f, b, rom, &ram[..]),
+            moves::load(
+                Width::Byte,
+                a.address,
+                a.register,
+                er,
+                f,
+                b,
+                rom,
+                &ram[..],
+                trail,
+            ),
             a.next,
             n,
         )
     } else {
         turns::ended(
-            moves::store(Width::Byte, a.address, a.register, er, f, b, ram),
+            moves::store(Width::Byte, a.address, a.register, er, f, b, ram, trail),
             a.next,
             n,
         )
@@ -172,13 +188,24 @@ pub fn byte(
     b: Board,
     rom: &[u8],
     ram: &mut [u8],
+    trail: &mut u64,
 ) -> Turn
-    ensures { λ t. ⌜ TurnsOn (moved Byte 16 2 k x) (now (er .entry)) (now (er .exit)) pc f b (now (rom .entry)) (now (ram .entry)) (now (ram .exit)) t ⌝ }
+    ensures did { λ t. ⌜ TurnsOn (moved Byte 16 2 k x) (now (er .entry)) (now (er .exit)) pc f b (now (rom .entry)) (now (ram .entry)) (now (ram .exit)) t ⌝ }
+    ensures told { λ t. ⌜ Trails (touchedBy (moved Byte 16 2 k x)) (now (er .entry)) f (now (trail .entry)) (now (trail .exit)) t ⌝ }
 {
     if k % 8 == 1 {
-        step_byte(k, x, pc, er, f, b, rom, ram)
+        step_byte(k, x, pc, er, f, b, rom, ram, trail)
     } else {
-        transfer_byte(k, aimed(k % 8, 16, x, pc, 2, 2, er), er, f, b, rom, ram)
+        transfer_byte(
+            k,
+            aimed(k % 8, 16, x, pc, 2, 2, er),
+            er,
+            f,
+            b,
+            rom,
+            ram,
+            trail,
+        )
     }
 }
 
@@ -191,18 +218,20 @@ fn step_word(
     b: Board,
     rom: &[u8],
     ram: &mut [u8],
+    trail: &mut u64,
 ) -> Turn
-    ensures { λ t. ⌜ TurnsOn (Code (Move (dirOf k) Word (Step (x / 16 % 8)) (x % 16)) 2) (now (er .entry)) (now (er .exit)) pc f b (now (rom .entry)) (now (ram .entry)) (now (ram .exit)) t ⌝ }
+    ensures did { λ t. ⌜ TurnsOn (Code (Move (dirOf k) Word (Step (x / 16 % 8)) (x % 16)) 2) (now (er .entry)) (now (er .exit)) pc f b (now (rom .entry)) (now (ram .entry)) (now (ram .exit)) t ⌝ }
+    ensures told { λ t. ⌜ Trails (touch (dirOf k) Word (Step (x / 16 % 8)) ∷ []) (now (er .entry)) f (now (trail .entry)) (now (trail .exit)) t ⌝ }
 {
     let e = (x / 16 % 8) as u8;
     let r = (x % 16) as u8;
     let next = flow::next(pc, 2);
     if k < 8 {
         let at = registers::get(Width::Long, er, e);
-        let d = moves::pop(Width::Word, e, r, er, f, b, rom, &ram[..]);
+        let d = moves::pop(Width::Word, e, r, er, f, b, rom, &ram[..], trail);
         turns::ended(d, next, 4 + timing::access(b.site, Width::Word, at))
     } else {
-        let d = moves::push(Width::Word, e, r, er, f, b, ram);
+        let d = moves::push(Width::Word, e, r, er, f, b, ram, trail);
         let at = registers::get(Width::Long, er, e);
         turns::ended(d, next, 4 + timing::access(b.site, Width::Word, at))
     }
@@ -216,19 +245,31 @@ fn transfer_word(
     b: Board,
     rom: &[u8],
     ram: &mut [u8],
+    trail: &mut u64,
 ) -> Turn
-    ensures { λ t. ⌜ Transfers (dirOf k) Word a (now (er .entry)) (now (er .exit)) f b (now (rom .entry)) (now (ram .entry)) (now (ram .exit)) t ⌝ }
+    ensures did { λ t. ⌜ Transfers (dirOf k) Word a (now (er .entry)) (now (er .exit)) f b (now (rom .entry)) (now (ram .entry)) (now (ram .exit)) t ⌝ }
+    ensures told { λ t. ⌜ Trails (touch (dirOf k) Word (Abs24 (a .address)) ∷ []) (now (er .entry)) f (now (trail .entry)) (now (trail .exit)) t ⌝ }
 {
     let n = a.states as u32 + timing::access(b.site, Width::Word, a.address);
     if k < 8 {
         turns::ended(
-            moves::load(Width::Word, a.address, a.register, er, f, b, rom, &ram[..]),
+            moves::load(
+                Width::Word,
+                a.address,
+                a.register,
+                er,
+                f,
+                b,
+                rom,
+                &ram[..],
+                trail,
+            ),
             a.next,
             n,
         )
     } else {
         turns::ended(
-            moves::store(Width::Word, a.address, a.register, er, f, b, ram),
+            moves::store(Width::Word, a.address, a.register, er, f, b, ram, trail),
             a.next,
             n,
         )
@@ -245,13 +286,24 @@ pub fn word(
     b: Board,
     rom: &[u8],
     ram: &mut [u8],
+    trail: &mut u64,
 ) -> Turn
-    ensures { λ t. ⌜ TurnsOn (moved Word 16 2 k x) (now (er .entry)) (now (er .exit)) pc f b (now (rom .entry)) (now (ram .entry)) (now (ram .exit)) t ⌝ }
+    ensures did { λ t. ⌜ TurnsOn (moved Word 16 2 k x) (now (er .entry)) (now (er .exit)) pc f b (now (rom .entry)) (now (ram .entry)) (now (ram .exit)) t ⌝ }
+    ensures told { λ t. ⌜ Trails (touchedBy (moved Word 16 2 k x)) (now (er .entry)) f (now (trail .entry)) (now (trail .exit)) t ⌝ }
 {
     if k % 8 == 1 {
-        step_word(k, x, pc, er, f, b, rom, ram)
+        step_word(k, x, pc, er, f, b, rom, ram, trail)
     } else {
-        transfer_word(k, aimed(k % 8, 16, x, pc, 2, 2, er), er, f, b, rom, ram)
+        transfer_word(
+            k,
+            aimed(k % 8, 16, x, pc, 2, 2, er),
+            er,
+            f,
+            b,
+            rom,
+            ram,
+            trail,
+        )
     }
 }
 
@@ -264,18 +316,20 @@ fn step_long(
     b: Board,
     rom: &[u8],
     ram: &mut [u8],
+    trail: &mut u64,
 ) -> Turn
-    ensures { λ t. ⌜ TurnsOn (Code (Move (dirOf k) Long (Step (x / 8 % 8)) (x % 8)) 4) (now (er .entry)) (now (er .exit)) pc f b (now (rom .entry)) (now (ram .entry)) (now (ram .exit)) t ⌝ }
+    ensures did { λ t. ⌜ TurnsOn (Code (Move (dirOf k) Long (Step (x / 8 % 8)) (x % 8)) 4) (now (er .entry)) (now (er .exit)) pc f b (now (rom .entry)) (now (ram .entry)) (now (ram .exit)) t ⌝ }
+    ensures told { λ t. ⌜ Trails (touch (dirOf k) Long (Step (x / 8 % 8)) ∷ []) (now (er .entry)) f (now (trail .entry)) (now (trail .exit)) t ⌝ }
 {
     let e = (x / 8 % 8) as u8;
     let r = (x % 8) as u8;
     let next = flow::next(pc, 4);
     if k < 8 {
         let at = registers::get(Width::Long, er, e);
-        let d = moves::pop(Width::Long, e, r, er, f, b, rom, &ram[..]);
+        let d = moves::pop(Width::Long, e, r, er, f, b, rom, &ram[..], trail);
         turns::ended(d, next, 6 + timing::access(b.site, Width::Long, at))
     } else {
-        let d = moves::push(Width::Long, e, r, er, f, b, ram);
+        let d = moves::push(Width::Long, e, r, er, f, b, ram, trail);
         let at = registers::get(Width::Long, er, e);
         turns::ended(d, next, 6 + timing::access(b.site, Width::Long, at))
     }
@@ -289,19 +343,31 @@ fn transfer_long(
     b: Board,
     rom: &[u8],
     ram: &mut [u8],
+    trail: &mut u64,
 ) -> Turn
-    ensures { λ t. ⌜ Transfers (dirOf k) Long a (now (er .entry)) (now (er .exit)) f b (now (rom .entry)) (now (ram .entry)) (now (ram .exit)) t ⌝ }
+    ensures did { λ t. ⌜ Transfers (dirOf k) Long a (now (er .entry)) (now (er .exit)) f b (now (rom .entry)) (now (ram .entry)) (now (ram .exit)) t ⌝ }
+    ensures told { λ t. ⌜ Trails (touch (dirOf k) Long (Abs24 (a .address)) ∷ []) (now (er .entry)) f (now (trail .entry)) (now (trail .exit)) t ⌝ }
 {
     let n = a.states as u32 + timing::access(b.site, Width::Long, a.address);
     if k < 8 {
         turns::ended(
-            moves::load(Width::Long, a.address, a.register, er, f, b, rom, &ram[..]),
+            moves::load(
+                Width::Long,
+                a.address,
+                a.register,
+                er,
+                f,
+                b,
+                rom,
+                &ram[..],
+                trail,
+            ),
             a.next,
             n,
         )
     } else {
         turns::ended(
-            moves::store(Width::Long, a.address, a.register, er, f, b, ram),
+            moves::store(Width::Long, a.address, a.register, er, f, b, ram, trail),
             a.next,
             n,
         )
@@ -318,12 +384,23 @@ pub fn long(
     b: Board,
     rom: &[u8],
     ram: &mut [u8],
+    trail: &mut u64,
 ) -> Turn
-    ensures { λ t. ⌜ TurnsOn (moved Long 8 4 k x) (now (er .entry)) (now (er .exit)) pc f b (now (rom .entry)) (now (ram .entry)) (now (ram .exit)) t ⌝ }
+    ensures did { λ t. ⌜ TurnsOn (moved Long 8 4 k x) (now (er .entry)) (now (er .exit)) pc f b (now (rom .entry)) (now (ram .entry)) (now (ram .exit)) t ⌝ }
+    ensures told { λ t. ⌜ Trails (touchedBy (moved Long 8 4 k x)) (now (er .entry)) f (now (trail .entry)) (now (trail .exit)) t ⌝ }
 {
     if k % 8 == 1 {
-        step_long(k, x, pc, er, f, b, rom, ram)
+        step_long(k, x, pc, er, f, b, rom, ram, trail)
     } else {
-        transfer_long(k, aimed(k % 8, 8, x, pc, 4, 4, er), er, f, b, rom, ram)
+        transfer_long(
+            k,
+            aimed(k % 8, 8, x, pc, 4, 4, er),
+            er,
+            f,
+            b,
+            rom,
+            ram,
+            trail,
+        )
     }
 }

@@ -1,8 +1,9 @@
 -- What a turn says of the step: the laws that an arm of the executor is proved by. Assumes nothing.
 use Prim.Native.Nat.{ℕ}
-use mathlib.Core.Path.{_≡_, sym, _∙_, ap}
+use mathlib.Core.Path.{_≡_, refl, sym, _∙_, ap}
 use mathlib.Core.List.{List, []}
 use native.Mathlib.Nat.{zero-add}
+use native.Mathlib.Omega.{arith}
 use Rattle.refusal.specs.declared.Refusal.{Refusal}
 use Rattle.refusal.specs.declared.Outcome.{Outcome}
 use Rattle.refusal.specs.declared.Outcome.the-variants.{Done, Refused}
@@ -111,3 +112,18 @@ pub told-refused : (er ram ram₀ : List ℕ) (pc : ℕ) (r : Registers) (t : Tu
     → after (toldIn er pc t) ram ≡ after (stays r x) ram₀ → er ≡ r .er
 unfolding toldIn toldAs
 told-refused er ram ram₀ pc r t x d e = ap (λ (a : After). a .answer .regs .er) (rw d at e)
+
+-- a turn is done where its deed was, and a refused one is not
+ended-as : (o : Outcome) (f : Condition) (p n : ℕ) → endedOf o f p n .outcome ≡ o
+unfolding endedOf
+ended-as Done f p n = refl
+ended-as (Refused x) f p n = refl
+
+pub deed-done : (q : Turn) (e : Deed) (p n : ℕ) → q ≡ endedOf (e .outcome) (e .condition) p n → q .outcome ≡ Done → e .outcome ≡ Done
+deed-done q e p n h d = sym (ended-as (e .outcome) (e .condition) p n) ∙ sym (ap (λ (u : Turn). u .outcome) h) ∙ d
+
+pub no-turn : (q : Turn) (f : Condition) (x : Refusal) → q ≡ turn f 0 0 (Refused x) → q .outcome ≡ Done → ⊥
+no-turn q f x h d =
+    let g : Refused x ≡ Done = sym (ap (λ (u : Turn). u .outcome) h) ∙ d in
+    let z : _≡_ {A = ℕ} 0 1 = cc in
+    absurd (omega arith)

@@ -1,14 +1,17 @@
 -- What an entry comes to where the registers lie. Nothing here is to be believed.
 use Prim.Native.Nat.{ℕ, _+_}
 use mathlib.Core.Path.{_≡_}
-use mathlib.Core.List.{List}
+use mathlib.Core.List.{List, []}
 use Rattle.refusal.specs.declared.Outcome.{Outcome}
 use Rattle.refusal.specs.declared.Outcome.the-variants.{Done, Refused}
 use Rattle.registers.specs.declared.Condition.{Condition}
 use Rattle.registers.specs.Lent.{lent}
 use Rattle.registers.specs.Parts.{withPc}
 use Rattle.memory.specs.declared.Board.{Board}
+use Rattle.codes.specs.Cycles.{Touch, touchesOf}
 use Rattle.codes.specs.declared.Decoded.{Decoded}
+use Rattle.codes.specs.declared.Decoded.the-variants.{Code, NoCode}
+use Rattle.moves.specs.Made.{trailOf}
 use Rattle.step.specs.Step.{after, answered, actOf}
 use Rattle.step.specs.declared.StepAnswer.{StepAnswer}
 use Rattle.turns.specs.declared.Turn.{Turn}
@@ -37,3 +40,11 @@ TurnsOn d er er′ pc f b rom ram ram′ t = after (toldIn er′ pc t) ram′ �
 -- the same whatever the memories, where d has nothing to do with them
 abbrev pub Turns : Decoded → List ℕ → List ℕ → ℕ → Condition → Turn → Type 0
 Turns d er er′ pc f t = (b : Board) (rom ram : List ℕ) → TurnsOn d er er′ pc f b rom ram ram t
+
+-- what the decoded d touches, and a turn of it that noted those touches behind t where it was done, whatever PC is
+abbrev pub touchedBy : Decoded → List Touch
+touchedBy (Code i n) = touchesOf i
+touchedBy (NoCode f) = []
+
+abbrev pub Trails : List Touch → List ℕ → Condition → ℕ → ℕ → Turn → Type 0
+Trails ts er f t t′ q = (pc : ℕ) → q .outcome ≡ Done → t′ ≡ trailOf (lent er pc f) t ts

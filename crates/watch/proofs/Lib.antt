@@ -1,4 +1,2 @@
 pub mod Laws
-pub mod Acts
 pub mod Honest
-pub mod Steps

@@ -1,4 +1,2 @@
-pub mod Told
 pub mod Watch
-pub mod MirrorWatch
 pub mod Honest

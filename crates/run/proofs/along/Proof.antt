@@ -11,4 +11,4 @@ along-spec =
     (tie.spec (λ c κs. search needs) (λ c. search needs)
     (λ c κs. (none-kept _ _ refl, record { there = λ h. rw (c .before .before .fewer .ensures) (counted _ _) }))
     (λ c. search needs)
-    (λ c. rw (← c .before .before .before .before .before .before .fewer .ensures) (c .before .before .before .start .ensures)))
+    (λ c. rw (← c .before .before .before .before .before .before .before .fewer .ensures) (c .before .before .before .before .start .ensures .0)))

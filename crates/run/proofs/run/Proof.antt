@@ -10,4 +10,4 @@ pub run-spec : {M : Type 1} → statement M
 run-spec =
     tie.close
     (tie.spec (λ c. search needs) (λ c. search needs) (λ c κs. (none-kept _ _ refl, record { there = λ h. absurd (omega (arith, h)) })) (λ c. search needs)
-    (λ c. let a = c .before .before .before .before .before .before .before .before .before .args in c .before .before .before .start .ensures ∙ alone (a .b) (a .rom .now) (a .stop) (a .budget) (a .ram .now) (a .r)))
+    (λ c. let a = c .before .before .before .before .before .before .before .before .before .before .args in c .before .before .before .before .start .ensures .0 ∙ alone (a .b) (a .rom .now) (a .stop) (a .budget) (a .ram .now) (a .r)))

@@ -15,4 +15,4 @@ unfolding baseOf followOf effectOf
 call-near-spec =
     tie.close
     (tie.spec (λ c κs. search needs) (λ c κs. search needs) (λ c κs. search needs) (λ c. search needs)
-    (λ c. λ rom. let a = c .before .before .before .before .before .before .before .before .args in (rw (c .before .before .before .before .before .target .ensures, c .before .before .before .before .before .before .next .ensures) at (c .before .before .called .ensures (a .pc))) ∙ call-acts (Bsr (Near (a .d))) 2 _ 4 (a .er .now) (a .pc) (a .f) (a .b) rom (a .ram .now) (push-takes (a .b .site) (lent (a .er .now) (a .pc) (a .f)) (Bsr (Near (a .d))) refl) refl refl))
+    (λ c. (λ rom. let a = c .before .before .before .before .before .before .before .before .before .args in (rw (c .before .before .before .before .before .before .target .ensures, c .before .before .before .before .before .before .before .next .ensures) at (c .before .before .called .ensures .0 (a .pc))) ∙ call-acts (Bsr (Near (a .d))) 2 _ 4 (a .er .now) (a .pc) (a .f) (a .b) rom (a .ram .now) (push-takes (a .b .site) (lent (a .er .now) (a .pc) (a .f)) (Bsr (Near (a .d))) refl) refl refl, c .before .before .called .ensures .1)))

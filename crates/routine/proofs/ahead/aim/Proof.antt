@@ -9,4 +9,4 @@ aim-spec =
     tie.close
     (tie.spec (λ c. search needs) (λ c. search needs) (λ c. search needs) (λ c. search needs) (λ c κs. search needs)
     (λ c κs. search needs) (λ c. search needs) (λ c. search needs)
-    (λ c. rw (c .before .before .before .t .given .1) (rw (c .was-read .ensures, c .before .read .ensures))))
+    (λ c. rw (c .before .before .before .t .given .1) (rw (c .was-read .ensures, c .before .look .ensures))))
