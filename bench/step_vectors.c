@@ -1,6 +1,8 @@
 /* Prints crates/step_vectors/stdout: every form's step from three states, every condition, document 01's marked examples 1 to
-   9, its refusals 1 to 7, refusal 14 and what is easily missed, all by model.c and decoder.c. The states are made by the same
-   formula as in the program; the codes are built from the table of forms. With the word `codes` it prints those instead. */
+   9, its refusals 1 to 7, refusal 14, what is easily missed and refusals with a pattern in all registers, all by model.c and
+   decoder.c. The states are made by the same formula as in the program; the codes are built from the table of forms. The last
+   line counts the steps of the forms, and the refusals that left the pattern: the program has them of its step in place. With
+   the word `codes` it prints those instead. */
 #include "model.h"
 #include <inttypes.h>
 #include <stdio.h>
@@ -297,6 +299,40 @@ static void vector_in_working_memory(void)
     line(&b, regs);
 }
 
+/* A pattern in all registers, and every refusal that a step has; the record holds the pattern after each. */
+static const struct { uint32_t pc; uint64_t code; } held[] = {
+    {9, 0x0000000000000000},                                /* 1 */
+    {8, 0x0000000000000000},                                /* 2 */
+    {0, 0x5471000000000000},                                /* 3 */
+    {6, 0x0000000000007900},                                /* 4 */
+    {0, 0x6810000000000000},                                /* 5: a byte; a word, the register going up; RTS */
+    {0, 0x6D10000000000000},
+    {0, 0x5470000000000000},
+    {0, 0x6C98000000000000},                                /* 6: the register going down; pushes */
+    {0, 0x5500000000000000},
+    {0, 0x5F04000000000000},
+    {0, 0x1F08000000000000},                                /* 7 */
+    {0, 0x5101000000000000},                                /* 14 */
+    {0, 0x5700000000000000},                                /* 15 */
+};
+
+static uint32_t held_records(void)
+{
+    uint32_t n = 0;
+    for (size_t i = 0; i < sizeof held / sizeof *held; i++) {
+        uint8_t rom[8], ram[2] = {0xA5, 0x5A};
+        uint32_t before[10] = {0x80818283, 0x90919293, 0xA0A1A2A3, 0xB0B1B2B3, 0xC0C1C2C3, 0xD0D1D2D3, 0xE0E1E2E3,
+                               0xF0F1F2F3, [H8_PC] = held[i].pc, [H8_CONDITION] = 0xAA}, regs[10];
+        struct board b = {0xFFEF10, rom, 8, ram, 2, no_ports(0xFFEF10)};
+        memcpy(regs, before, sizeof regs);
+        apart(held[i].code, rom);
+        printf("held: %016" PRIx64 " base %06" PRIx32, held[i].code, b.base);
+        struct outcome o = line(&b, regs);
+        n += o.number != 0 && !memcmp(regs, before, sizeof regs);
+    }
+    return n;
+}
+
 int main(int argc, char **argv)
 {
     decoder_start();
@@ -311,5 +347,7 @@ int main(int argc, char **argv)
     conditions();
     written_out();
     vector_in_working_memory();
+    uint32_t n = held_records();
+    printf("in place: steps as by value %d, records held after a refusal %" PRIu32 "\n", 3 * FORMS, n);
     return undone != 0;
 }

@@ -1,10 +1,13 @@
-// A step of every form from three states, every condition, marked examples 1 to 9, refusals 1 to 7 and 14 and what is easily missed.
-// A line has the state before, how the step went, which of ER0 to ER7 changed, and the rest of the state after. `stdout` is what
-// bench/step_vectors.c prints, by a model that shares no text with this product.
+// A step of every form from three states, every condition, marked examples 1 to 9, refusals 1 to 7 and 14, what is easily missed and
+// refusals with a pattern in all registers. A line has the state before, how the step went, which of ER0 to ER7 changed, and the rest
+// of the state after; each step is made a second time where the record lies, and a line says so if that does otherwise. `stdout` is
+// what bench/step_vectors.c prints, by a model that shares no text with this product.
+use memory::Board;
 use refusal::Outcome;
 use refusal::Refusal;
 use registers::Condition;
 use registers::Registers;
+use step::StepAnswer;
 
 // A code of each form, with what follows it.
 const CODES: [u64; 239] = [
@@ -350,21 +353,115 @@ fn show_outcome(o: Outcome, states: u32) {
     }
 }
 
-fn line(base: u32, rom: &[u8], ram: &mut [u8], r: Registers) -> Registers {
-    let before = r.er;
-    show_general(before);
-    show_control(r);
-    show_ram(&ram[..]);
-    let a = run::single(memory::plain(base), rom, ram, r);
+fn show_answer(before: [u32; 8], a: StepAnswer) {
     let o = a.outcome;
     let q = a.regs;
     let after = q.er;
     show_outcome(o, a.states);
     show_changes(before, after);
     show_control(q);
+}
+
+// The record lies here and is stepped where it lies; what came of it, in the form of the step by value.
+fn in_place(b: Board, rom: &[u8], ram: &mut [u8], r: Registers) -> StepAnswer {
+    let mut held = r;
+    let p = inplace::step_in_place(b, rom, ram, &mut held);
+    StepAnswer {
+        regs: held,
+        states: p.states,
+        outcome: p.outcome,
+    }
+}
+
+fn same_general(a: [u32; 8], b: [u32; 8]) -> bool {
+    (a[0] == b[0])
+        & (a[1] == b[1])
+        & (a[2] == b[2])
+        & (a[3] == b[3])
+        & (a[4] == b[4])
+        & (a[5] == b[5])
+        & (a[6] == b[6])
+        & (a[7] == b[7])
+}
+
+fn same_registers(a: Registers, b: Registers) -> bool {
+    let x = a.er;
+    let y = b.er;
+    let f = a.condition;
+    let g = b.condition;
+    same_general(x, y) & (a.pc == b.pc) & (f.byte() == g.byte())
+}
+
+// Zeros for a step that was done.
+fn numbers(o: Outcome) -> [u32; 3] {
+    match o {
+        Outcome::Done => [0; 3],
+        Outcome::Refused(f) => [f.number(), f.place(), f.group()],
+    }
+}
+
+fn same_outcome(a: Outcome, b: Outcome) -> bool {
+    let x = numbers(a);
+    let y = numbers(b);
+    (x[0] == y[0]) & (x[1] == y[1]) & (x[2] == y[2])
+}
+
+fn same_answer(a: StepAnswer, b: StepAnswer) -> bool {
+    let x = a.regs;
+    let y = b.regs;
+    let o = a.outcome;
+    let p = b.outcome;
+    same_registers(x, y) & (a.states == b.states) & same_outcome(o, p)
+}
+
+fn same_bytes(a: &[u8], b: &[u8]) -> bool {
+    if a.len() != b.len() {
+        return false;
+    }
+    let mut same = true;
+    for i in 0..a.len() {
+        same = same & (a[i] == b[i]);
+    }
+    same
+}
+
+fn show_agreed(agreed: bool) {
+    if !agreed {
+        io::write_all(1, b" in place otherwise");
+    }
+}
+
+fn counted(t: bool) -> u32 {
+    if t {
+        return 1;
+    }
+    0
+}
+
+// What a step by value answers, and whether the record in place did the same.
+struct Told {
+    regs: Registers,
+    agreed: bool,
+}
+
+// `again` holds what `ram` holds: working memory of the step in place.
+fn line(base: u32, rom: &[u8], ram: &mut [u8], again: &mut [u8], r: Registers) -> Told {
+    let before = r.er;
+    show_general(before);
+    show_control(r);
     show_ram(&ram[..]);
+    let a = run::single(memory::plain(base), rom, ram, r);
+    let q = a.regs;
+    show_answer(before, a);
+    show_ram(&ram[..]);
+    let h = in_place(memory::plain(base), rom, again, r);
+    let agreed = same_answer(a, h) & same_bytes(&ram[..], &again[..]);
+    show_agreed(agreed);
     io::write_all(1, b"\n");
-    q
+    Told {
+        regs: q,
+        agreed: agreed,
+    }
 }
 
 fn byte(x: u64) -> u8 {
@@ -417,11 +514,13 @@ fn working_memory(seed: u32) -> [u8; 16] {
 }
 
 // The board of the forms: 64 made bytes but for the code at PC, and working memory FFFFF0 to FFFFFF.
-fn on_board(seed: u32, code: u64, r: Registers) {
+fn on_board(seed: u32, code: u64, r: Registers) -> bool {
     let rom = code_memory(seed, code, r.pc);
     let mut ram = working_memory(seed);
+    let mut again = ram;
     io::print_hex(1, code, 16);
-    line(BASE, &rom, &mut ram, r);
+    let t = line(BASE, &rom, &mut ram, &mut again, r);
+    t.agreed
 }
 
 // ER5 to ER7 hold addresses: inside working memory; at its ends; or odd, with a top byte.
@@ -466,11 +565,14 @@ fn code(form: usize) -> u64 {
     t[form % 239]
 }
 
-// The seed tells the form and which of its three states.
-fn every_form() {
+// The seed tells the form and which of its three states. How often the record in place did the same.
+fn every_form() -> u32 {
+    let mut agreed = 0u32;
     for seed in 0..717u32 {
-        on_board(seed, code((seed / 3) as usize), state(seed, seed % 3));
+        let same = on_board(seed, code((seed / 3) as usize), state(seed, seed % 3));
+        agreed = agreed + counted(same) % 2;
     }
+    agreed
 }
 
 // A state of which only ER0, ER1, ER7, PC and the condition byte matter.
@@ -491,18 +593,15 @@ fn show_taken(pc: u32) {
     ;
 }
 
-// A branch from 0 to 12; four states, taken or not.
+// A branch from 0 to 12; four states, taken or not, and the same in place.
 fn branch(digit: u8, flags: u8) {
     let rom = [0x40 + digit % 16, 0x10];
     let mut ram = [0u8; 0];
-    let a = run::single(
-        memory::plain(BASE),
-        &rom,
-        &mut ram,
-        start(0, 0, 0, 0, flags),
-    );
+    let r = start(0, 0, 0, 0, flags);
+    let a = run::single(memory::plain(BASE), &rom, &mut ram, r);
+    let h = in_place(memory::plain(BASE), &rom, &mut ram, r);
     let q = a.regs;
-    if a.states == 4 {
+    if same_answer(a, h) & (a.states == 4) {
         show_taken(q.pc);
     } else {
         io::write_all(1, b"!");
@@ -536,14 +635,15 @@ fn conditions() {
 }
 
 // Read-only memory is the eight bytes of a code; working memory is two bytes, as in marked examples 8 and 9.
-fn small(name: &[u8], base: u32, code: u64, r: Registers) -> Registers {
+fn small(name: &[u8], base: u32, code: u64, r: Registers) -> Told {
     let rom = bytes(code);
     let mut ram = [0xA5u8, 0x5A];
+    let mut again = ram;
     io::write_all(1, name);
     io::print_hex(1, code, 16);
     io::write_all(1, b" base ");
     io::print_hex(1, base as u64, 6);
-    line(base, &rom, &mut ram, r)
+    line(base, &rom, &mut ram, &mut again, r)
 }
 
 const AT: u32 = 0xFFEF10;
@@ -596,12 +696,13 @@ fn examples() {
         start(0x00, 0xFF, 0, 0, 0x05),
     );
     decimal_examples();
-    let compared = small(
+    let t = small(
         b"example 7: ",
         AT,
         0x1C894D1000000000,
         start(0x01, 0x80, 0, 0, 0),
     );
+    let compared = t.regs;
     small(b"example 7: ", AT, 0x1C894D1000000000, compared);
     small(
         b"example 8: ",
@@ -980,12 +1081,77 @@ fn ends_of_memory() {
 fn vector_in_working_memory() {
     let rom = bytes(0x5F08000000000000);
     let mut ram = [0x12u8, 0x00, 0x40, 0x21];
+    let mut again = ram;
     io::write_all(1, b"vector: 5f08000000000000 base 000008");
-    line(8, &rom, &mut ram, start(0, 0, 0x0000000C, 0, 0));
+    line(8, &rom, &mut ram, &mut again, start(0, 0, 0x0000000C, 0, 0));
+}
+
+// Every refusal that a step has. PC odd; past the end; no code; cut short; reads: a byte, a word with the register going up, RTS;
+// writes: a byte with the register going down, two pushes; no row; a quotient that does not fit; left out.
+const HELD_PC: [u32; 13] = [9, 8, 0, 6, 0, 0, 0, 0, 0, 0, 0, 0, 0];
+
+const HELD_CODES: [u64; 13] = [
+    0x0000000000000000,
+    0x0000000000000000,
+    0x5471000000000000,
+    0x0000000000007900,
+    0x6810000000000000,
+    0x6D10000000000000,
+    0x5470000000000000,
+    0x6C98000000000000,
+    0x5500000000000000,
+    0x5F04000000000000,
+    0x1F08000000000000,
+    0x5101000000000000,
+    0x5700000000000000,
+];
+
+// A pattern with no byte twice, so that any change shows.
+fn filled(pc: u32) -> Registers {
+    Registers {
+        er: [
+            0x80818283,
+            0x90919293,
+            0xA0A1A2A3,
+            0xB0B1B2B3,
+            0xC0C1C2C3,
+            0xD0D1D2D3,
+            0xE0E1E2E3,
+            0xF0F1F2F3,
+        ],
+        pc: pc,
+        condition: Condition::from_byte(0xAA),
+    }
+}
+
+// Whether the record, by value and in place, is after the step what it was before.
+fn holds(k: usize) -> bool {
+    let p = HELD_PC;
+    let c = HELD_CODES;
+    let r = filled(p[k % 13]);
+    let t = small(b"held: ", AT, c[k % 13], r);
+    let q = t.regs;
+    t.agreed & same_registers(q, r)
+}
+
+fn held_records() -> u32 {
+    let mut held = 0u32;
+    for k in 0..13usize {
+        held = held + counted(holds(k)) % 2;
+    }
+    held
+}
+
+fn show_agreements(forms: u32, held: u32) {
+    io::write_all(1, b"in place: steps as by value ");
+    io::print_decimal(1, forms as u64);
+    io::write_all(1, b", records held after a refusal ");
+    io::print_decimal(1, held as u64);
+    io::write_all(1, b"\n");
 }
 
 fn main() {
-    every_form();
+    let forms = every_form();
     conditions();
     examples();
     refusals();
@@ -998,4 +1164,6 @@ fn main() {
     own_parts();
     ends_of_memory();
     vector_in_working_memory();
+    let held = held_records();
+    show_agreements(forms, held);
 }

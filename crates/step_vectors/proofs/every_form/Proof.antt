@@ -4,13 +4,14 @@ use Rattle.step_vectors.proofs.every_form.Statement.{statement}
 use Rattle.step_vectors.proofs.every_form.Tie as tie
 
 abbrev Inv-loop : tie.InvT-loop
-Inv-loop seed₀ seed = seed ≤ 717
+Inv-loop agreed₀ seed₀ agreed seed = (seed ≤ 717) × (agreed ≤ seed)
 
 abbrev μ-loop : tie.MeasureT-loop
-μ-loop seed₀ seed = 717 - seed
+μ-loop agreed₀ seed₀ agreed seed = 717 - seed
 
 pub every-form-spec : {M : Type 1} → statement M
 every-form-spec =
     tie.close
     (tie.spec Inv-loop μ-loop (λ c. search needs) (λ c. search needs) (λ c κs. search needs) (λ c κs. search needs)
-    (λ c κs. search needs) (λ c. search needs) (λ c. search needs) (λ c. search needs) (λ c. search needs))
+    (λ c κs. search needs) (λ c κs. search needs) (λ c. search needs) (λ c. search needs) (λ c. search needs) (λ c. search needs)
+    (λ c. search needs))
