@@ -233,7 +233,12 @@ fn large_boards() {
     with_arrays(&code, &long_code, &data, &long_data);
 }
 
-fn with_arrays(code: &[u8; 524288], long_code: &[u8; 524290], data: &[u8; 65536], long_data: &[u8; 65538]) {
+fn with_arrays(
+    code: &[u8; 524288],
+    long_code: &[u8; 524290],
+    data: &[u8; 65536],
+    long_data: &[u8; 65538],
+) {
     let base = 0x100000;
     try_board(base, code, data);
     try_board(base, long_code, data);
