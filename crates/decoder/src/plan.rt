@@ -364,13 +364,13 @@ pub fn give_numbered(give: Give, b: u8, spot: Spot) -> Plan
     )
 }
 
-// or with 8 added to it, for the inverted instruction
 fn taken(take: Take, n: u8, spot: Spot) -> Plan
     ensures { λ r. ⌜ r ≡ Whole (Takes take (Numbered n) spot) ⌝ }
 {
     Plan::Whole(Instruction::Takes(take, Index::Numbered(n), spot))
 }
 
+// or with 8 added to it, for the inverted instruction
 pub fn take_either(take: Take, inverted: Take, b: u8, spot: Spot) -> Plan
     ensures { λ r. ⌜ r ≡ takeEither take inverted b spot ⌝ }
 {
