@@ -15,7 +15,7 @@ use Rattle.step.specs.Step.{After, after, stepOf}
 use Rattle.step.proofs.Laws.{step-refused}
 use Rattle.memory.specs.declared.told.Access.{Access}
 use Rattle.timing.specs.Made.{sumOf, baseOf}
-use Rattle.watch.specs.Watch.{listed, listOf, listIn, Summed, Spares}
+use Rattle.watch.specs.Watch.{listOf, listIn, Summed, Spares}
 use Rattle.watch.specs.declared.Listed.{Listed}
 use Rattle.watch.specs.declared.Listed.the-variants.{Empty, Solo, Duo, Trio, Quartet}
 use Rattle.watch.specs.declared.Watched.{Watched}

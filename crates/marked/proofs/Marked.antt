@@ -7,6 +7,7 @@ use Rattle.arith.specs.Decimal.{findRow, adjustOf}
 use Rattle.registers.specs.Parts.{partOf, insertOf, withPart}
 use Rattle.memory.specs.Board.{goodBoard}
 use Rattle.memory.specs.Access.{inside, readPart, readOf, written, writeWord, writeOf}
+use Rattle.memory.specs.Told.{accessesAt}
 use Rattle.operate.specs.Operate.{sourceOf, operatedOf, aluOf, carriedOf, rowOf, addedOf, adjustedOf, decimalOf}
 use Rattle.site.specs.Costs.{costOf}
 use Rattle.timing.specs.Made.{madeAt, baseOf}
@@ -20,7 +21,7 @@ use Rattle.figure.proofs.Examples.{example10, example10-2, example11, example12
 use Rattle.marked.specs.Rows.{All, rows}
 
 pub marked : All rows
-unfolding xor signedOf fitsIn movedOf addOf subOf findRow adjustOf partOf insertOf withPart goodBoard inside readPart readOf written writeWord writeOf costOf madeAt baseOf statesAt sourceOf operatedOf aluOf carriedOf rowOf addedOf adjustedOf decimalOf addressOf stepOver loadedOf loadOf storedOf storeOf targetOf evenCondition holdsOf followOf transferOf effectOf finishOf carryOf obeyOf actOf fetchOf stepOf runFrom runOf
+unfolding xor signedOf fitsIn movedOf addOf subOf findRow adjustOf partOf insertOf withPart goodBoard inside readPart readOf written writeWord writeOf costOf accessesAt madeAt baseOf statesAt sourceOf operatedOf aluOf carriedOf rowOf addedOf adjustedOf decimalOf addressOf stepOver loadedOf loadOf storedOf storeOf targetOf evenCondition holdsOf followOf transferOf effectOf finishOf carryOf obeyOf actOf fetchOf stepOf runFrom runOf
 marked = (
   refl,
   (
