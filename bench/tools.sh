@@ -21,10 +21,10 @@ need() { # COMMAND PACKAGE...: the command, installed if it is missing
 emulator=
 if [ "$(uname -m)" = x86_64 ]; then
     need cc gcc libc6-dev
-    compiler=cc
+    compiler=cc names=nm
 else
     need x86_64-linux-gnu-gcc gcc-x86-64-linux-gnu libc6-dev-amd64-cross
-    compiler=x86_64-linux-gnu-gcc
+    compiler=x86_64-linux-gnu-gcc names=x86_64-linux-gnu-nm
     # an emulator of the system, else the one that the toolchain has beside its compiler, else Debian's
     kit=${RATTLE_HOME:-$(dirname "$(dirname "$(readlink -f "$(command -v rt || echo /)")")")}/on/$(uname -m)/toolchain/bin/qemu-x86_64
     emulator=$(command -v qemu-x86_64 || command -v qemu-x86_64-static || command -v "$kit" || true)

@@ -1,7 +1,8 @@
 /* h8.h: the H8/300H processor in proved software, for programs in C.
 
    Eleven functions over numbers and lent arrays. An array is lent as a pointer and its length in elements. The library keeps
-   nothing between calls, allocates nothing, prints nothing and calls nothing.
+   nothing between calls, allocates nothing and prints nothing. It calls one function that is not its own, memset, with which a
+   run clears what it keeps on the stack: every C library has it, and a program without one brings its own.
 
    WHAT CHANGED, the newest first. Programs that it concerns have to be compiled again with this header.
    - h8_step says what the instruction read and wrote. Its answer has H8_STEP_ANSWER numbers, 17 in place of 4; the first four
