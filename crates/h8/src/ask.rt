@@ -5,34 +5,34 @@ use asking::Number;
 use asking::Use;
 
 // Where the arguments stand: words one after the other, options by their name; 0 is none.
-pub struct Request {
-    pub count: usize,
-    pub plain: bool,
-    pub trace: usize,
-    pub words: usize,
-    pub first: usize,
-    pub second: usize,
-    pub third: usize,
-    pub fourth: usize,
-    pub extra: usize,
-    pub ram: usize,
-    pub port: usize,
-    pub budget: usize,
-    pub stop: usize,
-    pub er: usize,
-    pub routine: usize,
-    pub deep: usize,
-    pub unknown: usize,
+pub(crate) struct Request {
+    pub(crate) count: usize,
+    pub(crate) plain: bool,
+    pub(crate) trace: usize,
+    pub(crate) words: usize,
+    pub(crate) first: usize,
+    pub(crate) second: usize,
+    pub(crate) third: usize,
+    pub(crate) fourth: usize,
+    pub(crate) extra: usize,
+    pub(crate) ram: usize,
+    pub(crate) port: usize,
+    pub(crate) budget: usize,
+    pub(crate) stop: usize,
+    pub(crate) er: usize,
+    pub(crate) routine: usize,
+    pub(crate) deep: usize,
+    pub(crate) unknown: usize,
 }
 
-pub fn kind_at(i: usize) -> Kind {
+pub(crate) fn kind_at(i: usize) -> Kind {
     let mut buf = io::buffer();
     let n = os::arg(i, &mut buf);
     asking::kind_of(&buf[..n])
 }
 
 // The use that the word at argument i names; no word asks for help.
-pub fn use_at(i: usize) -> Use {
+pub(crate) fn use_at(i: usize) -> Use {
     if i == 0 {
         return Use::ForHelp;
     }
@@ -41,7 +41,7 @@ pub fn use_at(i: usize) -> Use {
     asking::use_of(&buf[..n])
 }
 
-pub fn asks_help() -> bool {
+pub(crate) fn asks_help() -> bool {
     let mut buf = io::buffer();
     let n = os::arg(1, &mut buf);
     asking::asks_help(&buf[..n])
@@ -129,7 +129,7 @@ fn counted(n: usize) -> usize
     if n < 1001 { n } else { 1001 }
 }
 
-pub fn requested() -> Request {
+pub(crate) fn requested() -> Request {
     let count = counted(os::arg_count());
     let mut q = none(count);
     let mut i: usize = 1;
@@ -144,7 +144,7 @@ pub fn requested() -> Request {
     q
 }
 
-pub fn number_at(i: usize) -> Number {
+pub(crate) fn number_at(i: usize) -> Number {
     if i == 0 {
         return Number::Missing;
     }

@@ -13,22 +13,22 @@ use site::Area;
 const NEVER: u64 = 16777215;
 
 // `bad` where a line has said which argument is wrong, here and below.
-pub struct Wanted {
-    pub given: Given,
-    pub bad: bool,
+pub(crate) struct Wanted {
+    pub(crate) given: Given,
+    pub(crate) bad: bool,
 }
 
-pub struct PortArea {
-    pub area: Area,
-    pub bad: bool,
+pub(crate) struct PortArea {
+    pub(crate) area: Area,
+    pub(crate) bad: bool,
 }
 
-pub struct Begun {
-    pub regs: Registers,
-    pub bad: bool,
+pub(crate) struct Begun {
+    pub(crate) regs: Registers,
+    pub(crate) bad: bool,
 }
 
-pub fn small(v: u64) -> u32 {
+pub(crate) fn small(v: u64) -> u32 {
     (v % 4294967296) as u32
 }
 
@@ -92,7 +92,7 @@ fn ports_of(base: u64, end: u64, bus: u64) -> PortArea {
 }
 
 // What was asked, with the ports and the ROM's length.
-pub fn with_area(g: Given, area: Area, rom: &[u8]) -> Given {
+pub(crate) fn with_area(g: Given, area: Area, rom: &[u8]) -> Given {
     Given {
         entry: g.entry,
         base: g.base,
@@ -117,7 +117,7 @@ fn bits(plain: bool, i: usize) -> Got {
 }
 
 // The ports that --port names; without it an empty area at `otherwise`.
-pub fn ports(q: Request, otherwise: u32) -> PortArea {
+pub(crate) fn ports(q: Request, otherwise: u32) -> PortArea {
     if q.port == 0 {
         return PortArea {
             area: none_at(otherwise),
@@ -143,7 +143,7 @@ fn no_numbers() -> Wanted {
 }
 
 // The numbers; the stop address and the budget may be left out.
-pub fn numbers(q: Request) -> Wanted {
+pub(crate) fn numbers(q: Request) -> Wanted {
     let Got::Found(entry) = fault::address(q.plain, b"ENTRY", q.third) else {
         return no_numbers();
     };
@@ -242,7 +242,7 @@ fn set_at(plain: bool, s: Begun, k: Kind, i: usize) -> Begun {
 }
 
 // Registers are 0 but for those that --er sets, and PC, which is the entry; all flags are 0.
-pub fn start(plain: bool, count: usize, entry: u32) -> Begun {
+pub(crate) fn start(plain: bool, count: usize, entry: u32) -> Begun {
     let mut s = cleared(entry);
     let mut i: usize = 1;
     while i < count {

@@ -3,7 +3,7 @@ use crate::ask;
 use crate::show;
 use asking::Number;
 
-pub enum Got {
+pub(crate) enum Got {
     Found(u64),
     Wrong,
 }
@@ -28,24 +28,24 @@ fn given(i: usize) {
     }
 }
 
-pub fn missing(plain: bool, name: &[u8], expected: &[u8]) {
+pub(crate) fn missing(plain: bool, name: &[u8], expected: &[u8]) {
     show::write(asking::missing(text::blank(), plain, name, expected));
 }
 
-pub fn wrong(plain: bool, name: &[u8], i: usize, expected: &[u8]) {
+pub(crate) fn wrong(plain: bool, name: &[u8], i: usize, expected: &[u8]) {
     show::write(asking::wrong(text::blank(), plain, name, b" is "));
     given(i);
     show::write(asking::expected(text::blank(), expected));
 }
 
 // A file and what is wrong with it.
-pub fn named(plain: bool, name: &[u8], i: usize, what: &[u8]) {
+pub(crate) fn named(plain: bool, name: &[u8], i: usize, what: &[u8]) {
     show::write(asking::wrong(text::blank(), plain, name, b" "));
     given(i);
     io::write_all(1, what);
 }
 
-pub fn file(plain: bool, i: usize, what: &[u8]) {
+pub(crate) fn file(plain: bool, i: usize, what: &[u8]) {
     named(plain, b"ROM", i, what);
 }
 
@@ -68,7 +68,7 @@ fn no(plain: bool, name: &[u8], expected: &[u8]) -> Got {
 }
 
 // The number at argument i, at most `most`; if it is none, a line says so.
-pub fn number(plain: bool, name: &[u8], i: usize, most: u64, expected: &[u8]) -> Got {
+pub(crate) fn number(plain: bool, name: &[u8], i: usize, most: u64, expected: &[u8]) -> Got {
     match ask::number_at(i) {
         Number::Value(v) => within(plain, name, i, most, expected, v),
         Number::NotNumber => not(plain, name, i, expected),
@@ -78,7 +78,7 @@ pub fn number(plain: bool, name: &[u8], i: usize, most: u64, expected: &[u8]) ->
 }
 
 // An address; whether it lies in the ROM is the library's to say.
-pub fn address(plain: bool, name: &[u8], i: usize) -> Got {
+pub(crate) fn address(plain: bool, name: &[u8], i: usize) -> Got {
     number(
         plain,
         name,

@@ -1,7 +1,7 @@
 // The ROM's bytes from a file.
 use crate::fault;
 
-pub enum Loaded {
+pub(crate) enum Loaded {
     Bytes(usize),
     NotLoaded,
 }
@@ -32,12 +32,17 @@ fn fill(fd: i32, buf: &mut [u8]) -> Loaded {
     Loaded::Bytes(at)
 }
 
+// The file is closed: where standard input is closed it had that number, and must not be read as what comes in there.
 fn read(path: &[u8], buf: &mut [u8]) -> Loaded {
     let fd = os::open_read(path);
     if fd < 0 {
         return Loaded::NotLoaded;
     }
-    fill(fd, buf)
+    let Loaded::Bytes(n) = fill(fd, buf) else {
+        return Loaded::NotLoaded;
+    };
+    libc::close(fd);
+    Loaded::Bytes(n)
 }
 
 // Why a file can't be read, by the system's number.
@@ -52,12 +57,14 @@ fn reason(e: i32) {
         io::write_all(1, b"a part of its path is no directory\n");
     } else if e == libc::ENAMETOOLONG {
         io::write_all(1, b"its name is too long\n");
+    } else if e == libc::EBADF {
+        io::write_all(1, b"standard input is not open for reading\n");
     } else {
         io::write_all(1, b"the system refuses it\n");
     }
 }
 
-pub fn unread(plain: bool, name: &[u8], i: usize) {
+pub(crate) fn unread(plain: bool, name: &[u8], i: usize) {
     let e = os::errno();
     fault::named(plain, name, i, b" can't be read: ");
     reason(e);
@@ -99,7 +106,7 @@ fn checked(plain: bool, i: usize, f: Loaded) -> Loaded {
 }
 
 // The file that argument i names, into `rom`, which is longer than any ROM.
-pub fn load(plain: bool, i: usize, rom: &mut [u8]) -> Loaded {
+pub(crate) fn load(plain: bool, i: usize, rom: &mut [u8]) -> Loaded {
     if i == 0 {
         fault::missing(plain, b"ROM", b"a file");
         return Loaded::NotLoaded;

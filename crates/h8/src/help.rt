@@ -1,5 +1,5 @@
 // What `h8` alone and `h8 help` print.
-pub fn show_help() {
+pub(crate) fn show_help() {
     io::write_all(
         1,
         b"h8: how long a routine of an H8/300H ROM can take, in states; every answer is that of a proved library

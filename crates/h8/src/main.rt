@@ -32,13 +32,20 @@ fn surplus(q: Request, u: Use) -> usize {
     }
 }
 
-// An option of `h8 run` alone beside another use. Ports are of no use to `h8 help` either.
+// An option of `h8 run` alone beside another use.
 fn astray(q: Request, u: Use) -> usize {
     let i = either(either(q.budget, q.stop), either(q.routine, q.trace));
     match u {
         Use::ForRun | Use::NoUse => 0,
-        Use::ForHelp => either(i, q.port),
         _ => i,
+    }
+}
+
+// Ports beside `h8 help`, which has no board.
+fn no_board(q: Request, u: Use) -> usize {
+    match u {
+        Use::ForHelp => q.port,
+        _ => 0,
     }
 }
 
@@ -82,6 +89,14 @@ fn out_of_place(q: Request, u: Use) -> bool {
         b"the option",
         not_deep(q, u),
         b"it with `h8 way` only",
+    ) {
+        return true;
+    }
+    if told(
+        q.plain,
+        b"the option",
+        no_board(q, u),
+        b"it with every use but `h8 help`",
     ) {
         return true;
     }

@@ -104,7 +104,7 @@ fn go(k: Site, rom: &[u8], table: &[u64], entry: u32, deep: bool, plain: bool) {
 }
 
 // The longest way from an entry, of n states, by a table that figure filled; `deep` with the ways through what it calls.
-pub fn way(k: Site, rom: &[u8], table: &[u64], entry: u32, n: u64, deep: bool, plain: bool) {
+pub(crate) fn way(k: Site, rom: &[u8], table: &[u64], entry: u32, n: u64, deep: bool, plain: bool) {
     show::write(lines::way_heading(text::blank(), plain));
     go(k, rom, table, entry, deep, plain);
     show::write(lines::longest(text::blank(), entry, n, plain));
@@ -125,7 +125,7 @@ fn places(k: Site, rom: &[u8], table: &[u64], from: usize, to: usize, plain: boo
     }
 }
 
-pub fn list(k: Site, rom: &[u8], table: &[u64], from: usize, to: usize, plain: bool) {
+pub(crate) fn list(k: Site, rom: &[u8], table: &[u64], from: usize, to: usize, plain: bool) {
     show::write(lines::list_heading(text::blank(), plain));
     places(k, rom, table, from, to, plain);
 }

@@ -32,24 +32,6 @@ fn told(g: Stage) -> bool {
     }
 }
 
-// The last eleven bytes of a block that lie below `end`, each where it stands in its record; `before` bytes came before the block.
-fn note(rec: &mut [u8; 11], block: &[u8], before: u64, end: u64) {
-    let mut i: usize = 0;
-    while i < block.len() {
-        let p = std::num::wrapping_add_u64(before, i as u64);
-        if (0 < p) & (p < end) {
-            let k = (std::num::wrapping_add_u64(p, 10) % 11) as usize;
-            rec[k] = block[i];
-        }
-        i += 1;
-    }
-}
-
-// Where the record after so many ends.
-fn end_of(records: u32) -> u64 {
-    (records as u64) * 11 + 12
-}
-
 // A line for each hundred thousand records, where the answers are not printed.
 fn moves(before: u32, after: u32) {
     if before / 100000 < after / 100000 {
@@ -69,7 +51,7 @@ fn fed(
 ) -> Reached {
     let k = f.standing;
     let q = replay::feed(k, b, rom, ram, block);
-    note(rec, block, f.bytes, end_of(q.steps));
+    runlines::fit(rec, block, f.bytes, q.steps);
     moves(k.steps, q.steps);
     let g = q.stage;
     Reached {
@@ -125,29 +107,6 @@ fn follow(
     q
 }
 
-// A number with a byte more below it.
-fn longer(n: u32, x: u8) -> u32 {
-    (n % 16777216) * 256 + x as u32
-}
-
-fn recorded(rec: &[u8; 11], f: Field) -> u32 {
-    match f {
-        Field::OfPc => longer(longer(longer(longer(0, rec[2]), rec[3]), rec[4]), rec[5]),
-        Field::OfCondition => longer(0, rec[6]),
-        Field::OfStates => longer(longer(longer(longer(0, rec[7]), rec[8]), rec[9]), rec[10]),
-    }
-}
-
-fn here(k: Standing, f: Field) -> u32 {
-    let r = k.regs;
-    let c = r.condition;
-    match f {
-        Field::OfPc => r.pc,
-        Field::OfCondition => c.byte() as u32,
-        Field::OfStates => (k.states % 4294967296) as u32,
-    }
-}
-
 fn counts(k: Standing, first: &[u8], plain: bool) {
     show::write(runlines::replayed(text::blank(), first, k.steps, b", states ", k.states, plain));
 }
@@ -165,8 +124,7 @@ fn registers(k: Standing, plain: bool) {
 
 fn differs(rom: &[u8], k: Standing, f: Field, rec: &[u8; 11], plain: bool) {
     let r = k.regs;
-    let n = std::num::wrapping_add_u32(k.steps, 1);
-    show::write(runlines::differs(text::blank(), n, f, here(k, f), recorded(rec, f), plain));
+    show::write(runlines::differs(text::blank(), k, f, rec, plain));
     show::write(runlines::there(text::blank(), rom, r.pc, plain));
     counts(k, b"before it: records ", plain);
     registers(k, plain);
@@ -265,7 +223,7 @@ fn with_ports(q: Request, rom: &[u8], ram: &mut [u8], g: Given) {
     }
 }
 
-pub fn show_replay(q: Request, rom: &[u8], ram: &mut [u8]) {
+pub(crate) fn show_replay(q: Request, rom: &[u8], ram: &mut [u8]) {
     let w = asked::numbers(q);
     if w.bad {
         return;

@@ -87,7 +87,7 @@ fn with_ports(q: Request, rom: &[u8], ram: &mut [u8], again: &mut [u8], g: Given
     }
 }
 
-pub fn show_run(q: Request, rom: &[u8], ram: &mut [u8], again: &mut [u8]) {
+pub(crate) fn show_run(q: Request, rom: &[u8], ram: &mut [u8], again: &mut [u8]) {
     let w = asked::numbers(q);
     if !w.bad {
         with_ports(q, rom, ram, again, w.given);

@@ -12,7 +12,7 @@ fn write_text(t: &[u8; 192], n: usize) {
     write_first(t, n);
 }
 
-pub fn write(l: Line) {
+pub(crate) fn write(l: Line) {
     let t = l.text;
     write_text(&t, l.n);
 }

@@ -6,9 +6,12 @@ ghost use Rattle.text.specs.Lines.{Adds, ascii};
 ghost use Rattle.text.specs.Numbers.{hexOf, placeOf, decimalOf};
 ghost use Rattle.wording.specs.Standing.{standsAt};
 ghost use Rattle.wording.specs.Parts.{numberLine, placeLine};
-ghost use Rattle.runlines.specs.Replays.{replayedText, fieldWords, fieldName, valueText, differsWords, differsPlain, differsText, thereText, stoppedText};
+ghost use Rattle.replay.specs.Replay.{more};
+ghost use Rattle.runlines.specs.Replays.{replayedText, fieldWords, fieldName, valueText, differsWords, differsPlain, differsLine, differsText, thereText, stoppedText};
+use crate::recorded;
 use refusal::Refusal;
 use replay::Field;
+use replay::Standing;
 use text::Line;
 use wording::parts;
 
@@ -110,15 +113,24 @@ fn differs_plain(mut l: Line, n: u32, f: Field, here: u32, there: u32) -> Line
     text::put(l, b'\n')
 }
 
-// Record n differs in a field: what it is here, and in the recording.
-pub fn differs(l: Line, n: u32, f: Field, here: u32, there: u32, plain: bool) -> Line
-    ensures { λ r. ⌜ Adds l (differsText n f here there plain) r ⌝ }
+fn differs_line(l: Line, n: u32, f: Field, here: u32, there: u32, plain: bool) -> Line
+    ensures { λ r. ⌜ Adds l (differsLine n f here there plain) r ⌝ }
 {
     if plain {
         differs_plain(l, n, f, here, there)
     } else {
         differs_words(l, n, f, here, there)
     }
+}
+
+// The record after those that agreed differs in a field: what it is here, and in the recording, whose record is `rec`.
+pub fn differs(l: Line, k: Standing, f: Field, rec: &[u8; 11], plain: bool) -> Line
+    ensures { λ r. ⌜ Adds l (differsText k f (now (rec .entry)) plain) r ⌝ }
+{
+    let n = k.steps % 16777216 + 1;
+    let here = recorded::here(k, f);
+    let there = recorded::recorded(rec, f);
+    differs_line(l, n, f, here, there, plain)
 }
 
 fn stands_plain(mut l: Line, rom: &[u8], p: u32) -> Line
@@ -155,10 +167,15 @@ pub fn there(l: Line, rom: &[u8], p: u32, plain: bool) -> Line
 pub fn stopped(l: Line, rom: &[u8], f: Refusal, plain: bool) -> Line
     ensures { λ r. ⌜ Adds l (stoppedText (now (rom .entry)) f plain) r ⌝ }
 {
-    if f.number() == 12 {
+    let n = f.number();
+    let empty = (n == 19) & (f.place() == 0);
+    if n == 12 {
         let a = parts::before(l, f, plain);
-        text::bytes(a, b"12: the recording has more than 1000000 records\n")
-    } else {
-        parts::refused(l, rom, f, plain)
+        return text::bytes(a, b"12: the recording has more than 1000000 records\n");
     }
+    if empty {
+        let a = parts::before(l, f, plain);
+        return text::bytes(a, b"19: the recording is empty\n");
+    }
+    parts::refused(l, rom, f, plain)
 }
