@@ -28,9 +28,9 @@ kept-upper t at x i h room = go (ℕ-discrete i at)
     go (no e) = rw (getD-set-other t at i (getD t at 0 / 4294967296 * 4294967296 + x) 0 e)
 
 module _ (flow : ℕ → Flow) (len : ℕ) where
-  -- with no level left there is nothing more to know
-  pub none-left : {d : ℕ} {before after : List ℕ} → d ≡ 0 → Costed flow len 0 before after → Costed flow len d before after
-  none-left h c = record { same-length = c .same-length; noted = c .noted; below = λ e i. absurd (omega arith); rest = c .rest }
+  -- with no level left there is nothing to know of calls
+  pub none-left : {d : ℕ} {table : List ℕ} → d ≡ 0 → NotedFrom flow len table 0 → Costed flow len d table table
+  none-left h n = record { same-length = refl; noted = n; below = λ e i. absurd (omega arith); rest = λ i l. refl }
 
   -- the whole level below
   pub level-below : {d i : ℕ} {before after : List ℕ} → i ≡ 0 → 0 < d → Reached flow len (d - 1) i before after → Costed flow len d before after
@@ -64,6 +64,19 @@ module _ (flow : ℕ → Flow) (len : ℕ) where
           rest = λ i l. b .costed .rest i l ∙ a .costed .rest i l;
         };
         rows = λ p k. b .rows p (omega arith);
+      }
+
+  -- what was noted first
+  pub after-note : {d i : ℕ} {before mid after : List ℕ} → Costed flow len 0 before mid → Reached flow len d i mid after → Reached flow len d i before after
+  after-note a b =
+      record {
+        costed = record {
+          same-length = b .costed .same-length ∙ a .same-length;
+          noted = b .costed .noted;
+          below = b .costed .below;
+          rest = λ i l. b .costed .rest i l ∙ a .rest i l;
+        };
+        rows = b .rows;
       }
 
   -- the row of p, in the lower half of its number

@@ -2,7 +2,7 @@
 use mathlib.Core.Path.{_≡_}
 use mathlib.Core.Bool.{Bool, true, false, _&&_}
 use mathlib.Core.List.{List}
-use Prim.Native.Nat.{ℕ, suc, _+_, _/_, _%_, _≤_, _<_}
+use Prim.Native.Nat.{ℕ, suc, _+_, _-_, _*_, _/_, _%_, _≤_, _<_}
 use lib.ListN.{length, getD}
 use lib.Dec.{leb, eqb}
 use Rattle.paths.specs.declared.Flow.{Flow}
@@ -44,6 +44,11 @@ pub record Ready (flow : ℕ → Flow) (len : ℕ) (table : List ℕ) (d i : ℕ
   pub noted : NotedFrom flow len table 0
   pub below : Callees flow len table d
   pub rows : LevelFrom flow len table d i
+
+-- what stands at each place is noted, and below the highest `done` places, which have their rows, all is there that the next rows hang on
+pub record Begun (flow : ℕ → Flow) (len : ℕ) (table : List ℕ) (d done : ℕ) : Type 0 where
+  pub noted : NotedFrom flow len table 0
+  pub ready : 0 < done → Ready flow len table d (len - done * 2)
 
 -- what is lent is long enough, and d levels of calls are left
 pub record Lent (len lent d : ℕ) : Type 0 where

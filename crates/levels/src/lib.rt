@@ -5,15 +5,15 @@
 use paths::Reckoned;
 use site::Site;
 ghost use mathlib.Core.Path.{_≡_};
-ghost use Prim.Native.Nat.{_+_, _-_, _*_, _<_, _≤_};
+ghost use Prim.Native.Nat.{_+_, _-_, _*_, _≤_};
 ghost use lib.ListN.{length};
 ghost use Rattle.listing.specs.Listing.{flowAt};
-ghost use Rattle.levels.specs.Levels.{fitting, FilledIf, Lent, Ready, Costed, Reached, Unpacked};
+ghost use Rattle.levels.specs.Levels.{fitting, FilledIf, NotedFrom, Lent, Ready, Begun, Costed, Reached, Unpacked};
 
 const DEPTH: u32 = 8;
 
 // So many places at most are filled in one loop; more are halved first. A call for each place would take longer than its row.
-const STRETCH: usize = 4096;
+const STRETCH: usize = 256;
 
 const HALF: u64 = 4294967296;
 
@@ -54,41 +54,37 @@ fn stretch(k: Site, rom: &[u8], table: &mut [u64], depth: u32, done: usize, more
     }
 }
 
-// Fills the rows of `more` places below the highest `done`: by halves, so that the stack does not grow with the memory. Before the first row of a level it
-// asks what calls cost there.
+// What paths cost from `more` places below the highest `done`, with `depth` levels of calls left: from the last place down, and by halves, so that the stack
+// does not grow with the memory. Before its first row it asks what calls cost there.
 fn path_cost(k: Site, rom: &[u8], table: &mut [u64], depth: u32, done: usize, more: usize)
     requires { ⌜ Lent (length (now rom)) (length (now table)) depth × ((done + more) * 2 ≤ length (now rom)) ⌝ }
-    requires { ⌜ (0 < done → Ready (flowAt k (now rom)) (length (now rom)) (now table) depth (length (now rom) - done * 2)) ⌝ }
+    requires { ⌜ Begun (flowAt k (now rom)) (length (now rom)) (now table) depth done ⌝ }
     ensures { λ r. ⌜ Reached (flowAt k (now (rom .entry))) (length (now (rom .entry))) depth (length (now (rom .entry)) - (done + more) * 2) (now (table .entry)) (now (table .exit)) ⌝ }
 {
-    if more == 0 {
-        if done == 0 {
-            call_cost(k, rom, table, depth);
-        }
+    if STRETCH < more {
+        let half = more / 2;
+        path_cost(k, rom, table, depth, done, half);
+        path_cost(k, rom, table, depth, done + half, more - half);
         return;
     }
-    if more <= STRETCH {
-        path_cost(k, rom, table, depth, done, 0);
-        stretch(k, rom, table, depth, done, more);
-        return;
+    if done == 0 {
+        call_cost(k, rom, table, depth);
     }
-    let half = more / 2;
-    path_cost(k, rom, table, depth, done, half);
-    path_cost(k, rom, table, depth, done + half, more - half);
+    stretch(k, rom, table, depth, done, more);
 }
 
-// What calls cost with `depth` levels left: the longest paths of all routines, with a level less. With none left a call costs nothing, for it is forbidden:
-// there it begins, and what stands at each place is noted.
+// What calls cost with `depth` levels left: the longest paths of the routines that they enter, from all places, with a level less. With none left a call is
+// forbidden, and there is nothing to know.
 fn call_cost(k: Site, rom: &[u8], table: &mut [u64], depth: u32)
     requires { ⌜ Lent (length (now rom)) (length (now table)) depth ⌝ }
+    requires { ⌜ NotedFrom (flowAt k (now rom)) (length (now rom)) (now table) 0 ⌝ }
     ensures { λ r. ⌜ Costed (flowAt k (now (rom .entry))) (length (now (rom .entry))) depth (now (table .entry)) (now (table .exit)) ⌝ }
 {
     if depth == 0 {
-        note(k, rom, table);
         return;
     }
-    let words = rom.len() / 2;
-    path_cost(k, rom, table, depth - 1, 0, words);
+    let places = rom.len() / 2;
+    path_cost(k, rom, table, depth - 1, 0, places);
 }
 
 // From the packed rows with eight levels left the two numbers of each place.
@@ -127,6 +123,7 @@ pub fn fill(k: Site, rom: &[u8], entry: u32, table: &mut [u64]) -> Reckoned
             low: entry as u64,
         };
     }
+    note(k, rom, table);
     path_cost(k, rom, table, DEPTH, 0, len / 2);
     let r = paths::level_row(len, table, DEPTH, entry);
     unpack(len, table);
