@@ -32,6 +32,15 @@ OWN = {
     "step-told": "step_told_lem",
     "give-by-part": "give_by_part_lem",
     "give-numbered": "give_numbered_lem",
+    "by-kind": "by_kind_lem",
+    "could-carry": "could_carry_lem",
+    "good-board": "good_board_lem",
+    "long-logic": "long_logic_lem",
+    "long-memory": "long_memory_lem",
+    "most-sum": "most_sum_lem",
+    "reads-part": "reads_part_lem",
+    "right-area": "right_area_lem",
+    "writes-part": "writes_part_lem",
     "inOrder": "in_order_of",
     "sameFlag": "is_same_flag",
     "tailOf": "tail_of_rest",
@@ -51,10 +60,10 @@ def wants(name):
 
 
 def names_of(path):
-    """The names that a file declares: at its margin, the fields of its records and the constructors of its data."""
+    """The names that a file declares: at its margin, in a module, the fields of its records and the constructors of its data."""
     found, within = [], False
     for line in open(path, encoding="utf8"):
-        if re.match(r"^(pub )?(record|data)\b", line):
+        if re.match(r"^((pub )?(record|data)|module)\b", line):
             within = True
             continue
         head = HEAD.match(line)

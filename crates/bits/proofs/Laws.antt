@@ -30,27 +30,27 @@ odd_num h false = let e : (h * 2 + 0) % 2 ≡ 0 = omega arith in rw e
 
 -- as a number above n bits, and those
 module _ (n x : ℕ) (v : Bool) where
-  two-parts : with_bit n x v ≡ (x / 2 ^ (n + 1) * 2 + num v) * 2 ^ n + x % 2 ^ n
+  two_parts : with_bit n x v ≡ (x / 2 ^ (n + 1) * 2 + num v) * 2 ^ n + x % 2 ^ n
   unfolding with_bit
-  two-parts =
+  two_parts =
       let h = x / 2 ^ (n + 1) in
       ap (λ (y : ℕ). y + num v * 2 ^ n + x % 2 ^ n) (ap (λ (y : ℕ). h * y) (twice n) ∙ sym (mul_assoc h 2 (2 ^ n)))
       ∙ ap (λ (y : ℕ). y + x % 2 ^ n) (sym (add-mul (h * 2) (num v) (2 ^ n)))
 
-  from-it : with_bit n x v / 2 ^ n ≡ x / 2 ^ (n + 1) * 2 + num v
-  from-it = ap (λ (y : ℕ). y / 2 ^ n) two-parts ∙ high _ n (mod-lt x (pow_pos n))
+  from_it : with_bit n x v / 2 ^ n ≡ x / 2 ^ (n + 1) * 2 + num v
+  from_it = ap (λ (y : ℕ). y / 2 ^ n) two_parts ∙ high _ n (mod-lt x (pow_pos n))
 
   pub above : with_bit n x v / 2 ^ (n + 1) ≡ x / 2 ^ (n + 1)
   above =
       let l = num_lt v in
       let h = x / 2 ^ (n + 1) in
-      sym (shr-shr (with_bit n x v) n 1) ∙ ap (λ (y : ℕ). y / 2) from-it ∙ omega arith
+      sym (shr-shr (with_bit n x v) n 1) ∙ ap (λ (y : ℕ). y / 2) from_it ∙ omega arith
 
-  pub the-bit : bit_of n (with_bit n x v) ≡ v
-  the-bit = ap low_bit from-it ∙ odd_num (x / 2 ^ (n + 1)) v
+  pub the_bit : bit_of n (with_bit n x v) ≡ v
+  the_bit = ap low_bit from_it ∙ odd_num (x / 2 ^ (n + 1)) v
 
   pub below : with_bit n x v % 2 ^ n ≡ x % 2 ^ n
-  below = ap (λ (y : ℕ). y % 2 ^ n) two-parts ∙ low _ n (mod-lt x (pow_pos n))
+  below = ap (λ (y : ℕ). y % 2 ^ n) two_parts ∙ low _ n (mod-lt x (pow_pos n))
 
 -- a bit replaced by itself
 pub itself : (n x : ℕ) → with_bit n x (bit_of n x) ≡ x
@@ -59,7 +59,7 @@ itself n x =
     let d : num (low_bit q) ≡ q % 2 = num_odd q (q % 2) refl in
     let h : x / 2 ^ (n + 1) ≡ q / 2 = sym (shr-shr x n 1) in
     let e : x / 2 ^ (n + 1) * 2 + num (low_bit q) ≡ q = omega (arith, d, h) in
-    two-parts n x (bit_of n x) ∙ ap (λ (y : ℕ). y * 2 ^ n + x % 2 ^ n) e ∙ split x n
+    two_parts n x (bit_of n x) ∙ ap (λ (y : ℕ). y * 2 ^ n + x % 2 ^ n) e ∙ split x n
 
 -- bits below, and above
 module _ (x y : ℕ) where

@@ -17,7 +17,7 @@ use Rattle.operate.specs.Results.{Effect}
 use Rattle.timing.specs.Made.{made_at, sum_of, base_of}
 use Rattle.moves.specs.Made.{trail_of}
 use Rattle.moves.specs.Moves.{stepped, address_of, step_over}
-use Rattle.moves.proofs.States.{states-once, states-twice}
+use Rattle.moves.proofs.States.{states_once, states_twice}
 use Rattle.bitwork.specs.Bitwork.{took_of, gave_of, takes_at, gives_at, takes_of, gives_of}
 use Rattle.flow.specs.Targets.{next_of}
 use Rattle.codes.specs.Cycles.{touch, byte}
@@ -33,23 +33,23 @@ use Rattle.codes.specs.declared.Decoded.TheVariants.{Code}
 use Rattle.step.specs.Follow.{followOf}
 use Rattle.step.specs.Step.{effect_of}
 use Rattle.turns.specs.MirrorTurn.{turn, ended_of, Turns, TurnsOn}
-use Rattle.turns.proofs.Laws.{done-acts, ended-taking}
+use Rattle.turns.proofs.Laws.{done_acts, ended_taking}
 use Rattle.entry.specs.Entry.{spot_as}
 use Rattle.bitturns.specs.MirrorBitturns.{address_in}
 
 -- in a byte register
 module _ (index : Index) (d n pc : ℕ) (er : List ℕ) (f g : Condition) where
-  pub take-turns : (take : Take) → Does (λ (r : Registers). took_of take index (part_of Byte r d) r) er er f g
+  pub take_turns : (take : Take) → Does (λ (r : Registers). took_of take index (part_of Byte r d) r) er er f g
       → Turns (Code (Takes take index (InPart d)) n) er er pc f (turn g (next_of pc n) 2 Done)
   unfolding effect_of followOf takes_of
-  take-turns take h b rom ram =
-      done-acts (Takes take index (InPart d)) n (next_of pc n) er pc f b rom ram refl (λ (r : Registers). took_of take index (part_of Byte r d) r) er g refl refl h
+  take_turns take h b rom ram =
+      done_acts (Takes take index (InPart d)) n (next_of pc n) er pc f b rom ram refl (λ (r : Registers). took_of take index (part_of Byte r d) r) er g refl refl h
 
-  pub give-turns : (give : Give) (er' : List ℕ) → Does (λ (r : Registers). with_part Byte r d (gave_of give index (part_of Byte r d) r)) er er' f g
+  pub give_turns : (give : Give) (er' : List ℕ) → Does (λ (r : Registers). with_part Byte r d (gave_of give index (part_of Byte r d) r)) er er' f g
       → Turns (Code (Gives give index (InPart d)) n) er er' pc f (turn g (next_of pc n) 2 Done)
   unfolding effect_of followOf gives_of
-  give-turns give er' h b rom ram =
-      done-acts (Gives give index (InPart d)) n (next_of pc n) er pc f b rom ram refl (λ (r : Registers). with_part Byte r d (gave_of give index (part_of Byte r d) r)) er' g refl refl h
+  give_turns give er' h b rom ram =
+      done_acts (Gives give index (InPart d)) n (next_of pc n) er pc f b rom ram refl (λ (r : Registers). with_part Byte r d (gave_of give index (part_of Byte r d) r)) er' g refl refl h
 
 -- in memory, where the operand s says the byte; x is what an access to it costs
 module _ (index : Index) (s n pc : ℕ) (er : List ℕ) (f : Condition) (b : Board) (rom ram : List ℕ) (e : Deed) (x : ℕ)
@@ -57,24 +57,24 @@ module _ (index : Index) (s n pc : ℕ) (er : List ℕ) (f : Condition) (b : Boa
   abbrev pub Ends : Instruction → List ℕ → ℕ → Type 0
   Ends i m states = TurnsOn (Code i n) er er pc f b rom ram m (ended_of e.outcome e.condition (next_of pc n) states)
 
-  took-ends : (take : Take) (t : Bool) → ltb s 256 ≡ t → effect_in er pc e ≡ takes_at take index (address_in s er) (lent er pc f) b rom ram
+  took_ends : (take : Take) (t : Bool) → ltb s 256 ≡ t → effect_in er pc e ≡ takes_at take index (address_in s er) (lent er pc f) b rom ram
       → Ends (Takes take index (spot_as s)) ram (4 + x)
   unfolding effect_of followOf takes_of address_of step_over part_of spot_as address_in base_of
-  took-ends take true h q =
+  took_ends take true h q =
       let i = Takes take index (AtEr (s % 8)) in
       rw h
-      (ended-taking i n (next_of pc n) er pc f b rom ram (4 + x) er ram e
-      (λ o. rw (cost, h) (sym (states-once b.site (lent er pc f) i (touch Load Byte (At (s % 8))) refl))) refl
+      (ended_taking i n (next_of pc n) er pc f b rom ram (4 + x) er ram e
+      (λ o. rw (cost, h) (sym (states_once b.site (lent er pc f) i (touch Load Byte (At (s % 8))) refl))) refl
       (ap (λ (y : Effect). stepped y ram) (rw h at q)))
-  took-ends take false h q =
+  took_ends take false h q =
       let i = Takes take index (AtAbs (s % 256)) in
       rw h
-      (ended-taking i n (next_of pc n) er pc f b rom ram (4 + x) er ram e
-      (λ o. rw (cost, h) (sym (states-once b.site (lent er pc f) i (touch Load Byte (Abs8 (s % 256))) refl))) refl
+      (ended_taking i n (next_of pc n) er pc f b rom ram (4 + x) er ram e
+      (λ o. rw (cost, h) (sym (states_once b.site (lent er pc f) i (touch Load Byte (Abs8 (s % 256))) refl))) refl
       (ap (λ (y : Effect). stepped y ram) (rw h at q)))
 
   pub take_ends : (take : Take) → effect_in er pc e ≡ takes_at take index (address_in s er) (lent er pc f) b rom ram → Ends (Takes take index (spot_as s)) ram (4 + x)
-  take_ends take q = took-ends take (ltb s 256) refl q
+  take_ends take q = took_ends take (ltb s 256) refl q
 
   gave_ends : (give : Give) (ram' : List ℕ) (t : Bool) → ltb s 256 ≡ t → stepped (effect_in er pc e) ram' ≡ gives_at give index (address_in s er) (lent er pc f) b rom ram
       → Ends (Gives give index (spot_as s)) ram' (4 + x + x)
@@ -83,18 +83,18 @@ module _ (index : Index) (s n pc : ℕ) (er : List ℕ) (f : Condition) (b : Boa
       let i = Gives give index (AtEr (s % 8)) in
       let p = At (s % 8) in
       rw h
-      (ended-taking i n (next_of pc n) er pc f b rom ram (4 + x + x) er ram' e
-      (λ o. rw (cost, h) (sym (states-twice b.site (lent er pc f) i (touch Load Byte p) (touch Store Byte p) refl))) refl (rw h at q))
+      (ended_taking i n (next_of pc n) er pc f b rom ram (4 + x + x) er ram' e
+      (λ o. rw (cost, h) (sym (states_twice b.site (lent er pc f) i (touch Load Byte p) (touch Store Byte p) refl))) refl (rw h at q))
   gave_ends give ram' false h q =
       let i = Gives give index (AtAbs (s % 256)) in
       let p = Abs8 (s % 256) in
       rw h
-      (ended-taking i n (next_of pc n) er pc f b rom ram (4 + x + x) er ram' e
-      (λ o. rw (cost, h) (sym (states-twice b.site (lent er pc f) i (touch Load Byte p) (touch Store Byte p) refl))) refl (rw h at q))
+      (ended_taking i n (next_of pc n) er pc f b rom ram (4 + x + x) er ram' e
+      (λ o. rw (cost, h) (sym (states_twice b.site (lent er pc f) i (touch Load Byte p) (touch Store Byte p) refl))) refl (rw h at q))
 
-  pub give-ends : (give : Give) (ram' : List ℕ) → stepped (effect_in er pc e) ram' ≡ gives_at give index (address_in s er) (lent er pc f) b rom ram
+  pub give_ends : (give : Give) (ram' : List ℕ) → stepped (effect_in er pc e) ram' ≡ gives_at give index (address_in s er) (lent er pc f) b rom ram
       → Ends (Gives give index (spot_as s)) ram' (4 + x + x)
-  give-ends give ram' q = gave_ends give ram' (ltb s 256) refl q
+  give_ends give ram' q = gave_ends give ram' (ltb s 256) refl q
 
 -- what they touch, by the operand
 module _ (s t pc : ℕ) (er : List ℕ) (f : Condition) where
@@ -104,15 +104,15 @@ module _ (s t pc : ℕ) (er : List ℕ) (f : Condition) where
   taken_at true h = rw h
   taken_at false h = rw h
 
-  pub taken-trail : trail_of (lent er pc f) t (touch Load Byte (Abs24 (address_in s er)) ∷ []) ≡ trail_of (lent er pc f) t (byte (spot_as s) (λ p. touch Load Byte p ∷ []))
-  taken-trail = taken_at (ltb s 256) refl
+  pub taken_trail : trail_of (lent er pc f) t (touch Load Byte (Abs24 (address_in s er)) ∷ []) ≡ trail_of (lent er pc f) t (byte (spot_as s) (λ p. touch Load Byte p ∷ []))
+  taken_trail = taken_at (ltb s 256) refl
 
-  given-at : (b : Bool) → ltb s 256 ≡ b → trail_of (lent er pc f) t (touch Load Byte (Abs24 (address_in s er)) ∷ touch Store Byte (Abs24 (address_in s er)) ∷ [])
+  given_at : (b : Bool) → ltb s 256 ≡ b → trail_of (lent er pc f) t (touch Load Byte (Abs24 (address_in s er)) ∷ touch Store Byte (Abs24 (address_in s er)) ∷ [])
       ≡ trail_of (lent er pc f) t (byte (spot_as s) (λ p. touch Load Byte p ∷ touch Store Byte p ∷ []))
   unfolding address_of step_over part_of spot_as address_in
-  given-at true h = rw h
-  given-at false h = rw h
+  given_at true h = rw h
+  given_at false h = rw h
 
-  pub given-trail : trail_of (lent er pc f) t (touch Load Byte (Abs24 (address_in s er)) ∷ touch Store Byte (Abs24 (address_in s er)) ∷ [])
+  pub given_trail : trail_of (lent er pc f) t (touch Load Byte (Abs24 (address_in s er)) ∷ touch Store Byte (Abs24 (address_in s er)) ∷ [])
       ≡ trail_of (lent er pc f) t (byte (spot_as s) (λ p. touch Load Byte p ∷ touch Store Byte p ∷ []))
-  given-trail = given-at (ltb s 256) refl
+  given_trail = given_at (ltb s 256) refl

@@ -19,7 +19,7 @@ use Rattle.operate.specs.Results.{Effect}
 use Rattle.moves.specs.Made.{trail_of}
 use Rattle.moves.specs.Moves.{stepped, address_of, step_over}
 use Rattle.moves.specs.MirrorMoves.{kept_of}
-use Rattle.moves.proofs.Laws.{kept_stored, noted-kept}
+use Rattle.moves.proofs.Laws.{kept_stored, noted_kept}
 use Rattle.bits.specs.Bits.{bit_of, with_bit}
 use Rattle.bits.specs.Effects.{taken_of, given_of}
 use Rattle.codes.specs.Cycles.{touch}
@@ -62,4 +62,4 @@ given_stored give index a x y pc er f b ram ram' p u m = rw (sym u, sym m) (ap (
 pub noted_given : (t t₁ t₂ pc a : ℕ) (er : List ℕ) (f : Condition) (p : Put) → t₁ ≡ noted t (touch_of false Byte a) → t₂ ≡ put_noted p t₁ (touch_of true Byte a)
     → (kept_of p f f).outcome ≡ Done → t₂ ≡ trail_of (lent er pc f) t (touch Load Byte (Abs24 a) ∷ touch Store Byte (Abs24 a) ∷ [])
 unfolding address_of step_over
-noted_given t t₁ t₂ pc a er f p h k o = rw h at (noted-kept t₁ t₂ (touch_of true Byte a) p f f k o)
+noted_given t t₁ t₂ pc a er f p h k o = rw h at (noted_kept t₁ t₂ (touch_of true Byte a) p f f k o)

@@ -10,7 +10,7 @@ use Rattle.refusal.specs.declared.Refusal.{Refusal}
 use Rattle.refusal.specs.declared.Refusal.TheVariants.{BadBoard, FetchOutside, UnknownCode, CutShort, ReadOutside, WriteOutside, NoAdjustRow, BadEntry, NotFollowed, NotUpward, NotInstruction, BudgetTooLarge, LentTooShort, DivideFails, LeftOut, TooDeep, BadVersion, BadLength, Unfinished, ReplayEnded, TooLong}
 use Rattle.registers.specs.Condition.{condition_of, byte_of}
 use Rattle.registers.specs.declared.Registers.{Registers}
-use Rattle.registers.proofs.Bytes.{condition-back, byte_small}
+use Rattle.registers.proofs.Bytes.{condition_back, byte_small}
 use Rattle.layout.specs.Registers.{registers_of, ten_of}
 use Rattle.replay.specs.Replay.{standing}
 use Rattle.replay.specs.declared.Part.{Part}
@@ -116,26 +116,26 @@ eight (a ∷ b ∷ c ∷ d ∷ e ∷ f ∷ g ∷ h ∷ x ∷ l) q = absurd (omeg
 
 registers_back : (r : Registers) (rest : List ℕ) → length r.er ≡ 8 → registers_of (ten_of r ++ rest) ≡ r
 unfolding registers_of ten_of
-registers_back r rest q = rw (mod-eq_of_lt (byte_small r.condition), condition-back r.condition, eight r.er q)
+registers_back r rest q = rw (mod-eq_of_lt (byte_small r.condition), condition_back r.condition, eight r.er q)
 
 module _ (r : Registers) (steps high low : ℕ) (rest : List ℕ) where
   abbrev line : Stage → List ℕ
   line g = (ten_of r ++ steps ∷ high ∷ low ∷ stage_numbers g) ++ rest
 
-  report-back : (t : Report) → ReportFits t → report_of (line (Told t)) ≡ t
+  report_back : (t : Report) → ReportFits t → report_of (line (Told t)) ≡ t
   unfolding ten_of stage_numbers report_numbers report_of
-  report-back Agreed h = refl
-  report-back (Differs OfPc) h = refl
-  report-back (Differs OfCondition) h = refl
-  report-back (Differs OfStates) h = refl
-  report-back (Halted f) h = ap (λ (x : Refusal). Halted x) (refusal_back f h)
+  report_back Agreed h = refl
+  report_back (Differs OfPc) h = refl
+  report_back (Differs OfCondition) h = refl
+  report_back (Differs OfStates) h = refl
+  report_back (Halted f) h = ap (λ (x : Refusal). Halted x) (refusal_back f h)
 
-  stage-back : (g : Stage) → StageFits g → stage_at (get_or (line g) 13 0) (part_of (line g)) (report_of (line g)) ≡ g
+  stage_back : (g : Stage) → StageFits g → stage_at (get_or (line g) 13 0) (part_of (line g)) (report_of (line g)) ≡ g
   unfolding ten_of stage_numbers part_of
-  stage-back Version h = refl
-  stage-back (Records p) h = rw (mod-eq_of_lt h)
-  stage-back (Told t) h = ap (λ (x : Report). Told x) (report-back t h)
-  stage-back Closed h = refl
+  stage_back Version h = refl
+  stage_back (Records p) h = rw (mod-eq_of_lt h)
+  stage_back (Told t) h = ap (λ (x : Report). Told x) (report_back t h)
+  stage_back Closed h = refl
 
 -- the sizes of a replay's values are those of their types
 pub record Fits (k : Standing) : Type 0 where
@@ -151,4 +151,4 @@ back k rest h =
     put_together k _ _ _
     (registers_back k.regs ((k.steps ∷ k.states / 2 ^ 32 ∷ k.states % 2 ^ 32 ∷ stage_numbers k.stage) ++ rest) h.eight_registers)
     (omega arith)
-    (stage-back k.regs k.steps (k.states / 2 ^ 32) (k.states % 2 ^ 32) rest k.stage h.stage_fits)
+    (stage_back k.regs k.steps (k.states / 2 ^ 32) (k.states % 2 ^ 32) rest k.stage h.stage_fits)

@@ -94,90 +94,90 @@ product_good pre a b hb Sixteen make v f =
 module _ (pre : List ℕ) (c d : ℕ) (hd : d < 256) (spot : Spot) (hs : HasSpot spot) where
   -- its word, by the bit's number in the code, with 8 added, and in a byte register
   module _ (lead : ℕ) (f : (byte n : ℕ) → spot_code lead spot byte n ≡ pre ++ (byte ∷ n · (d % 16) ∷ [])) (byte : ℕ) (h : c ≡ byte) where
-    word-is : (n : ℕ) → n · (d % 16) ≡ d → spot_code lead spot byte n ≡ pre ++ (c ∷ d ∷ [])
-    word-is n k = f byte n ∙ ap₂ (λ x y. pre ++ (x ∷ y ∷ [])) (sym h) k
+    word_is : (n : ℕ) → n · (d % 16) ≡ d → spot_code lead spot byte n ≡ pre ++ (c ∷ d ∷ [])
+    word_is n k = f byte n ∙ ap₂ (λ x y. pre ++ (x ∷ y ∷ [])) (sym h) k
 
     low_word : d < 128 → ((d / 16 < 8) × HasSpot spot) × (spot_code lead spot byte (0 + d / 16) ≡ pre ++ (c ∷ d ∷ []))
-    low_word k = ((omega arith, hs), word-is (0 + d / 16) (omega arith))
+    low_word k = ((omega arith, hs), word_is (0 + d / 16) (omega arith))
 
     high_word : 128 ≤ d → ((d / 16 - 8 < 8) × HasSpot spot) × (spot_code lead spot byte (8 + (d / 16 - 8)) ≡ pre ++ (c ∷ d ∷ []))
-    high_word k = ((omega arith, hs), word-is (8 + (d / 16 - 8)) (omega arith))
+    high_word k = ((omega arith, hs), word_is (8 + (d / 16 - 8)) (omega arith))
 
-    part-word : ((Unit {0} × (d / 16 < 16)) × HasSpot spot) × (spot_code lead spot byte (d / 16) ≡ pre ++ (c ∷ d ∷ []))
-    part-word = (((tt, omega arith), hs), word-is (d / 16) (omega arith))
+    part_word : ((Unit {0} × (d / 16 < 16)) × HasSpot spot) × (spot_code lead spot byte (d / 16) ≡ pre ++ (c ∷ d ∷ []))
+    part_word = (((tt, omega arith), hs), word_is (d / 16) (omega arith))
 
-  reads-good : ((byte n : ℕ) → spot_code 0x7C spot byte n ≡ pre ++ (byte ∷ n · (d % 16) ∷ [])) → Good pre c d (reads_of c d spot)
-  reads-good f =
-      if≡ (Good pre c d) c 0x63 (part-word 0x7C f 0x63) λ n63.
+  reads_good : ((byte n : ℕ) → spot_code 0x7C spot byte n ≡ pre ++ (byte ∷ n · (d % 16) ∷ [])) → Good pre c d (reads_of c d spot)
+  reads_good f =
+      if≡ (Good pre c d) c 0x63 (part_word 0x7C f 0x63) λ n63.
       if≡ (Good pre c d) c 0x73 (λ h. if< (Good pre c d) d 128 (low_word 0x7C f 0x73 h) (λ k. tt)) λ n73.
       if≡ (Good pre c d) c 0x74 (λ h. if< (Good pre c d) d 128 (low_word 0x7C f 0x74 h) (high_word 0x7C f 0x74 h)) λ n74.
       if≡ (Good pre c d) c 0x75 (λ h. if< (Good pre c d) d 128 (low_word 0x7C f 0x75 h) (high_word 0x7C f 0x75 h)) λ n75.
       if≡ (Good pre c d) c 0x76 (λ h. if< (Good pre c d) d 128 (low_word 0x7C f 0x76 h) (high_word 0x7C f 0x76 h)) λ n76.
       if≡ (Good pre c d) c 0x77 (λ h. if< (Good pre c d) d 128 (low_word 0x7C f 0x77 h) (high_word 0x7C f 0x77 h)) λ n77. tt
 
-  writes-good : ((byte n : ℕ) → spot_code 0x7D spot byte n ≡ pre ++ (byte ∷ n · (d % 16) ∷ [])) → Good pre c d (writes_of c d spot)
-  writes-good f =
-      if≡ (Good pre c d) c 0x60 (part-word 0x7D f 0x60) λ n60.
-      if≡ (Good pre c d) c 0x61 (part-word 0x7D f 0x61) λ n61.
-      if≡ (Good pre c d) c 0x62 (part-word 0x7D f 0x62) λ n62.
+  writes_good : ((byte n : ℕ) → spot_code 0x7D spot byte n ≡ pre ++ (byte ∷ n · (d % 16) ∷ [])) → Good pre c d (writes_of c d spot)
+  writes_good f =
+      if≡ (Good pre c d) c 0x60 (part_word 0x7D f 0x60) λ n60.
+      if≡ (Good pre c d) c 0x61 (part_word 0x7D f 0x61) λ n61.
+      if≡ (Good pre c d) c 0x62 (part_word 0x7D f 0x62) λ n62.
       if≡ (Good pre c d) c 0x67 (λ h. if< (Good pre c d) d 128 (low_word 0x7D f 0x67 h) (high_word 0x7D f 0x67 h)) λ n67.
       if≡ (Good pre c d) c 0x70 (λ h. if< (Good pre c d) d 128 (low_word 0x7D f 0x70 h) (λ k. tt)) λ n70.
       if≡ (Good pre c d) c 0x71 (λ h. if< (Good pre c d) d 128 (low_word 0x7D f 0x71 h) (λ k. tt)) λ n71.
       if≡ (Good pre c d) c 0x72 (λ h. if< (Good pre c d) d 128 (low_word 0x7D f 0x72 h) (λ k. tt)) λ n72. tt
 
 module _ (a b : ℕ) (hb : b < 256) where
-  short-good : (d : ℕ) (i : Instruction) → (d < 8 → Codes [] a b i []) → Good [] a b (below d 8 (Whole i))
-  short-good d i f = if< (Good [] a b) d 8 f (λ h. tt)
+  short_good : (d : ℕ) (i : Instruction) → (d < 8 → Codes [] a b i []) → Good [] a b (below d 8 (Whole i))
+  short_good d i f = if< (Good [] a b) d 8 f (λ h. tt)
 
   -- e0
-  e-zero-good : (make : ℕ → Instruction) → ((e : ℕ) → e < 8 → Valid (make e)) → ((e : ℕ) → code_of (make e) ≡ a ∷ e · 0 ∷ [])
+  e_zero_good : (make : ℕ → Instruction) → ((e : ℕ) → e < 8 → Valid (make e)) → ((e : ℕ) → code_of (make e) ≡ a ∷ e · 0 ∷ [])
       → Good [] a b (e_zero b (Whole (make (b / 16))))
-  e-zero-good make v f =
+  e_zero_good make v f =
       if_e_zero (λ is. Good [] a b (pick is (Whole (make (b / 16))) Nothing)) b
       (λ z e. (v (b / 16) e, f (b / 16) ∙ two≡ refl (omega arith))) tt
 
-  incDecs-good : (way : Way) → way_digit way · 0xB ≡ a → Good [] a b (inc_dec_of way b)
-  incDecs-good way e =
-      if≡ (Good [] a b) (b / 16) 0 (λ h. short-good (b % 16) (AddsSubs way One (b % 16)) (λ k. (omega arith, two≡ e (omega arith)))) λ n0.
-      if≡ (Good [] a b) (b / 16) 8 (λ h. short-good (b % 16) (AddsSubs way Two (b % 16)) (λ k. (omega arith, two≡ e (omega arith)))) λ n8.
-      if≡ (Good [] a b) (b / 16) 9 (λ h. short-good (b % 16) (AddsSubs way Four (b % 16)) (λ k. (omega arith, two≡ e (omega arith)))) λ n9.
+  inc_decs_good : (way : Way) → way_digit way · 0xB ≡ a → Good [] a b (inc_dec_of way b)
+  inc_decs_good way e =
+      if≡ (Good [] a b) (b / 16) 0 (λ h. short_good (b % 16) (AddsSubs way One (b % 16)) (λ k. (omega arith, two≡ e (omega arith)))) λ n0.
+      if≡ (Good [] a b) (b / 16) 8 (λ h. short_good (b % 16) (AddsSubs way Two (b % 16)) (λ k. (omega arith, two≡ e (omega arith)))) λ n8.
+      if≡ (Good [] a b) (b / 16) 9 (λ h. short_good (b % 16) (AddsSubs way Four (b % 16)) (λ k. (omega arith, two≡ e (omega arith)))) λ n9.
       if≡ (Good [] a b) (b / 16) 5 (λ h. (omega arith, two≡ e (omega arith))) λ n5.
       if≡ (Good [] a b) (b / 16) 13 (λ h. (omega arith, two≡ e (omega arith))) λ n13.
-      if≡ (Good [] a b) (b / 16) 7 (λ h. short-good (b % 16) (IncDec way Long One (b % 16)) (λ k. (omega arith, two≡ e (omega arith)))) λ n7.
-      if≡ (Good [] a b) (b / 16) 15 (λ h. short-good (b % 16) (IncDec way Long Two (b % 16)) (λ k. (omega arith, two≡ e (omega arith)))) λ n15. tt
+      if≡ (Good [] a b) (b / 16) 7 (λ h. short_good (b % 16) (IncDec way Long One (b % 16)) (λ k. (omega arith, two≡ e (omega arith)))) λ n7.
+      if≡ (Good [] a b) (b / 16) 15 (λ h. short_good (b % 16) (IncDec way Long Two (b % 16)) (λ k. (omega arith, two≡ e (omega arith)))) λ n15. tt
 
-  shifts-good : (t u : Turn) → ((w : Width) (r : ℕ) → code_of (Shift t w r) ≡ a ∷ digit013 w · r ∷ []) → ((w : Width) (r : ℕ) → code_of (Shift u w r) ≡ a ∷ digit89_b w · r ∷ [])
+  shifts_good : (t u : Turn) → ((w : Width) (r : ℕ) → code_of (Shift t w r) ≡ a ∷ digit013 w · r ∷ []) → ((w : Width) (r : ℕ) → code_of (Shift u w r) ≡ a ∷ digit89_b w · r ∷ [])
       → Good [] a b (shift_of t u b)
-  shifts-good t u f g =
+  shifts_good t u f g =
       if≡ (Good [] a b) (b / 16) 0 (λ h. (omega arith, f Byte (b % 16) ∙ two≡ refl (omega arith))) λ n0.
       if≡ (Good [] a b) (b / 16) 1 (λ h. (omega arith, f Word (b % 16) ∙ two≡ refl (omega arith))) λ n1.
-      if≡ (Good [] a b) (b / 16) 3 (λ h. short-good (b % 16) (Shift t Long (b % 16)) (λ k. (k, f Long (b % 16) ∙ two≡ refl (omega arith)))) λ n3.
+      if≡ (Good [] a b) (b / 16) 3 (λ h. short_good (b % 16) (Shift t Long (b % 16)) (λ k. (k, f Long (b % 16) ∙ two≡ refl (omega arith)))) λ n3.
       if≡ (Good [] a b) (b / 16) 8 (λ h. (omega arith, g Byte (b % 16) ∙ two≡ refl (omega arith))) λ n8.
       if≡ (Good [] a b) (b / 16) 9 (λ h. (omega arith, g Word (b % 16) ∙ two≡ refl (omega arith))) λ n9.
-      if≡ (Good [] a b) (b / 16) 11 (λ h. short-good (b % 16) (Shift u Long (b % 16)) (λ k. (k, g Long (b % 16) ∙ two≡ refl (omega arith)))) λ n11. tt
+      if≡ (Good [] a b) (b / 16) 11 (λ h. short_good (b % 16) (Shift u Long (b % 16)) (λ k. (k, g Long (b % 16) ∙ two≡ refl (omega arith)))) λ n11. tt
 
-  unaries-good : 0x17 ≡ a → Good [] a b (unary_of b)
-  unaries-good e =
+  unaries_good : 0x17 ≡ a → Good [] a b (unary_of b)
+  unaries_good e =
       if≡ (Good [] a b) (b / 16) 0 (λ h. (omega arith, two≡ e (omega arith))) λ n0.
       if≡ (Good [] a b) (b / 16) 1 (λ h. (omega arith, two≡ e (omega arith))) λ n1.
-      if≡ (Good [] a b) (b / 16) 3 (λ h. short-good (b % 16) (Unary Not Long (b % 16)) (λ k. (omega arith, two≡ e (omega arith)))) λ n3.
+      if≡ (Good [] a b) (b / 16) 3 (λ h. short_good (b % 16) (Unary Not Long (b % 16)) (λ k. (omega arith, two≡ e (omega arith)))) λ n3.
       if≡ (Good [] a b) (b / 16) 8 (λ h. (omega arith, two≡ e (omega arith))) λ n8.
       if≡ (Good [] a b) (b / 16) 9 (λ h. (omega arith, two≡ e (omega arith))) λ n9.
-      if≡ (Good [] a b) (b / 16) 11 (λ h. short-good (b % 16) (Unary Neg Long (b % 16)) (λ k. (omega arith, two≡ e (omega arith)))) λ n11.
+      if≡ (Good [] a b) (b / 16) 11 (λ h. short_good (b % 16) (Unary Neg Long (b % 16)) (λ k. (omega arith, two≡ e (omega arith)))) λ n11.
       if≡ (Good [] a b) (b / 16) 5 (λ h. (omega arith, two≡ e (omega arith))) λ n5.
-      if≡ (Good [] a b) (b / 16) 7 (λ h. short-good (b % 16) (Unary Extu Long (b % 16)) (λ k. (omega arith, two≡ e (omega arith)))) λ n7.
+      if≡ (Good [] a b) (b / 16) 7 (λ h. short_good (b % 16) (Unary Extu Long (b % 16)) (λ k. (omega arith, two≡ e (omega arith)))) λ n7.
       if≡ (Good [] a b) (b / 16) 13 (λ h. (omega arith, two≡ e (omega arith))) λ n13.
-      if≡ (Good [] a b) (b / 16) 15 (λ h. short-good (b % 16) (Unary Exts Long (b % 16)) (λ k. (omega arith, two≡ e (omega arith)))) λ n15. tt
+      if≡ (Good [] a b) (b / 16) 15 (λ h. short_good (b % 16) (Unary Exts Long (b % 16)) (λ k. (omega arith, two≡ e (omega arith)))) λ n15. tt
 
   -- (8+e)e
-  long-good : (op : Op) → HasReg op Long → ((s d : ℕ) → code_of (Alu op Long (Reg s) d) ≡ a ∷ (8 + s) · d ∷ []) → Good [] a b (long_reg op b)
-  long-good op has f =
+  long_good : (op : Op) → HasReg op Long → ((s d : ℕ) → code_of (Alu op Long (Reg s) d) ≡ a ∷ (8 + s) · d ∷ []) → Good [] a b (long_reg op b)
+  long_good op has f =
       if< (Good [] a b) b 128 (λ h. tt) λ h.
-      short-good (b % 16) (Alu op Long (Reg (b / 16 - 8)) (b % 16))
+      short_good (b % 16) (Alu op Long (Reg (b / 16 - 8)) (b % 16))
       (λ k. ((has, omega arith, k), f (b / 16 - 8) (b % 16) ∙ two≡ refl (omega arith)))
 
-  row0-good : a / 16 ≡ 0 → Good [] a b (row0 (a % 16) b)
-  row0-good z =
+  row0_good : a / 16 ≡ 0 → Good [] a b (row0 (a % 16) b)
+  row0_good z =
       if≡ (Good [] a b) (a % 16) 0 (λ h. if≡ (Good [] a b) b 0 (λ k. (tt, two≡ (omega arith) (omega arith))) (λ k. tt)) λ n0.
       if≡ (Good [] a b) (a % 16) 2 (λ h. if< (Good [] a b) b 16 (λ k. (k, two≡ (omega arith) (omega arith))) (λ k. tt)) λ n2.
       if≡ (Good [] a b) (a % 16) 3 (λ h. if< (Good [] a b) b 16 (λ k. (k, two≡ (omega arith) (omega arith))) (λ k. tt)) λ n3.
@@ -188,37 +188,37 @@ module _ (a b : ℕ) (hb : b < 256) where
       if≡ (Good [] a b) (a % 16) 8 (λ h. (omega arith, two≡ (omega arith) (omega arith))) λ n8.
       if≡ (Good [] a b) (a % 16) 9 (λ h. (omega arith, two≡ (omega arith) (omega arith))) λ n9.
       if≡ (Good [] a b) (a % 16) 10
-      (λ h. if< (Good [] a b) b 16 (λ k. (omega arith, two≡ (omega arith) (omega arith))) (λ k. long-good Add tt (λ s d. two≡ (omega arith) refl))) λ n10.
-      if≡ (Good [] a b) (a % 16) 11 (λ h. incDecs-good Up (omega arith)) λ n11.
+      (λ h. if< (Good [] a b) b 16 (λ k. (omega arith, two≡ (omega arith) (omega arith))) (λ k. long_good Add tt (λ s d. two≡ (omega arith) refl))) λ n10.
+      if≡ (Good [] a b) (a % 16) 11 (λ h. inc_decs_good Up (omega arith)) λ n11.
       if≡ (Good [] a b) (a % 16) 12 (λ h. (omega arith, two≡ (omega arith) (omega arith))) λ n12.
       if≡ (Good [] a b) (a % 16) 13 (λ h. (omega arith, two≡ (omega arith) (omega arith))) λ n13.
       if≡ (Good [] a b) (a % 16) 14 (λ h. (omega arith, two≡ (omega arith) (omega arith))) λ n14.
       if≡ (Good [] a b) (a % 16) 15
-      (λ h. if< (Good [] a b) b 16 (λ k. (k, two≡ (omega arith) (omega arith))) (λ k. long-good Mov tt (λ s d. two≡ (omega arith) refl))) λ n15. tt
+      (λ h. if< (Good [] a b) b 16 (λ k. (k, two≡ (omega arith) (omega arith))) (λ k. long_good Mov tt (λ s d. two≡ (omega arith) refl))) λ n15. tt
 
-  row1-good : a / 16 ≡ 1 → Good [] a b (row1 (a % 16) b)
-  row1-good z =
-      if≡ (Good [] a b) (a % 16) 0 (λ h. shifts-good Shll Shal (λ w r. two≡ (omega arith) refl) (λ w r. two≡ (omega arith) refl)) λ n0.
-      if≡ (Good [] a b) (a % 16) 1 (λ h. shifts-good Shlr Shar (λ w r. two≡ (omega arith) refl) (λ w r. two≡ (omega arith) refl)) λ n1.
-      if≡ (Good [] a b) (a % 16) 2 (λ h. shifts-good Rotxl Rotl (λ w r. two≡ (omega arith) refl) (λ w r. two≡ (omega arith) refl)) λ n2.
-      if≡ (Good [] a b) (a % 16) 3 (λ h. shifts-good Rotxr Rotr (λ w r. two≡ (omega arith) refl) (λ w r. two≡ (omega arith) refl)) λ n3.
+  row1_good : a / 16 ≡ 1 → Good [] a b (row1 (a % 16) b)
+  row1_good z =
+      if≡ (Good [] a b) (a % 16) 0 (λ h. shifts_good Shll Shal (λ w r. two≡ (omega arith) refl) (λ w r. two≡ (omega arith) refl)) λ n0.
+      if≡ (Good [] a b) (a % 16) 1 (λ h. shifts_good Shlr Shar (λ w r. two≡ (omega arith) refl) (λ w r. two≡ (omega arith) refl)) λ n1.
+      if≡ (Good [] a b) (a % 16) 2 (λ h. shifts_good Rotxl Rotl (λ w r. two≡ (omega arith) refl) (λ w r. two≡ (omega arith) refl)) λ n2.
+      if≡ (Good [] a b) (a % 16) 3 (λ h. shifts_good Rotxr Rotr (λ w r. two≡ (omega arith) refl) (λ w r. two≡ (omega arith) refl)) λ n3.
       if≡ (Good [] a b) (a % 16) 4 (λ h. (omega arith, two≡ (omega arith) (omega arith))) λ n4.
       if≡ (Good [] a b) (a % 16) 5 (λ h. (omega arith, two≡ (omega arith) (omega arith))) λ n5.
       if≡ (Good [] a b) (a % 16) 6 (λ h. (omega arith, two≡ (omega arith) (omega arith))) λ n6.
-      if≡ (Good [] a b) (a % 16) 7 (λ h. unaries-good (omega arith)) λ n7.
+      if≡ (Good [] a b) (a % 16) 7 (λ h. unaries_good (omega arith)) λ n7.
       if≡ (Good [] a b) (a % 16) 8 (λ h. (omega arith, two≡ (omega arith) (omega arith))) λ n8.
       if≡ (Good [] a b) (a % 16) 9 (λ h. (omega arith, two≡ (omega arith) (omega arith))) λ n9.
       if≡ (Good [] a b) (a % 16) 10
-      (λ h. if< (Good [] a b) b 16 (λ k. (omega arith, two≡ (omega arith) (omega arith))) (λ k. long-good Sub tt (λ s d. two≡ (omega arith) refl))) λ n10.
-      if≡ (Good [] a b) (a % 16) 11 (λ h. incDecs-good Down (omega arith)) λ n11.
+      (λ h. if< (Good [] a b) b 16 (λ k. (omega arith, two≡ (omega arith) (omega arith))) (λ k. long_good Sub tt (λ s d. two≡ (omega arith) refl))) λ n10.
+      if≡ (Good [] a b) (a % 16) 11 (λ h. inc_decs_good Down (omega arith)) λ n11.
       if≡ (Good [] a b) (a % 16) 12 (λ h. (omega arith, two≡ (omega arith) (omega arith))) λ n12.
       if≡ (Good [] a b) (a % 16) 13 (λ h. (omega arith, two≡ (omega arith) (omega arith))) λ n13.
       if≡ (Good [] a b) (a % 16) 14 (λ h. (omega arith, two≡ (omega arith) (omega arith))) λ n14.
       if≡ (Good [] a b) (a % 16) 15
-      (λ h. if< (Good [] a b) b 16 (λ k. (k, two≡ (omega arith) (omega arith))) (λ k. long-good Cmp tt (λ s d. two≡ (omega arith) refl))) λ n15. tt
+      (λ h. if< (Good [] a b) b 16 (λ k. (k, two≡ (omega arith) (omega arith))) (λ k. long_good Cmp tt (λ s d. two≡ (omega arith) refl))) λ n15. tt
 
-  row5-good : a / 16 ≡ 5 → Good [] a b (row5 (a % 16) b)
-  row5-good z =
+  row5_good : a / 16 ≡ 5 → Good [] a b (row5 (a % 16) b)
+  row5_good z =
       if≡ (Good [] a b) (a % 16) 0 (λ h. product_good [] a b hb Eight (Multiply Unsigned Eight) (λ s d v w. (v, w)) (λ s d. two≡ (omega arith) refl)) λ n0.
       if≡ (Good [] a b) (a % 16) 1 (λ h. product_good [] a b hb Eight (Divide Unsigned Eight) (λ s d v w. (v, w)) (λ s d. two≡ (omega arith) refl)) λ n1.
       if≡ (Good [] a b) (a % 16) 2 (λ h. product_good [] a b hb Sixteen (Multiply Unsigned Sixteen) (λ s d v w. (v, w)) (λ s d. two≡ (omega arith) refl)) λ n2.
@@ -226,11 +226,11 @@ module _ (a b : ℕ) (hb : b < 256) where
       if≡ (Good [] a b) (a % 16) 4 (λ h. if≡ (Good [] a b) b 112 (λ k. (tt, two≡ (omega arith) (omega arith))) (λ k. tt)) λ n4.
       if≡ (Good [] a b) (a % 16) 5 (λ h. (hb, two≡ (omega arith) refl)) λ n5.
       if≡ (Good [] a b) (a % 16) 8 (λ h. if≡ (Good [] a b) (bcc_digit b) 0 (λ k x y hx hy. (omega arith, four≡ [] (omega arith) (omega arith) (omega arith) (omega arith))) (λ k. tt)) λ n8.
-      if≡ (Good [] a b) (a % 16) 9 (λ h. e-zero-good (λ e. Jmp (ByReg e)) (λ e k. k) (λ e. two≡ (omega arith) refl)) λ n9.
+      if≡ (Good [] a b) (a % 16) 9 (λ h. e_zero_good (λ e. Jmp (ByReg e)) (λ e k. k) (λ e. two≡ (omega arith) refl)) λ n9.
       if≡ (Good [] a b) (a % 16) 10 (λ h x y hx hy. (omega arith, four≡ [] (omega arith) (omega arith) (omega arith) (omega arith))) λ n10.
       if≡ (Good [] a b) (a % 16) 11 (λ h. (hb, two≡ (omega arith) refl)) λ n11.
       if≡ (Good [] a b) (a % 16) 12 (λ h. if≡ (Good [] a b) b 0 (λ k x y hx hy. (omega arith, four≡ [] (omega arith) (omega arith) (omega arith) (omega arith))) (λ k. tt)) λ n12.
-      if≡ (Good [] a b) (a % 16) 13 (λ h. e-zero-good (λ e. Jsr (ByReg e)) (λ e k. k) (λ e. two≡ (omega arith) refl)) λ n13.
+      if≡ (Good [] a b) (a % 16) 13 (λ h. e_zero_good (λ e. Jsr (ByReg e)) (λ e k. k) (λ e. two≡ (omega arith) refl)) λ n13.
       if≡ (Good [] a b) (a % 16) 14 (λ h x y hx hy. (omega arith, four≡ [] (omega arith) (omega arith) (omega arith) (omega arith))) λ n14.
       if≡ (Good [] a b) (a % 16) 15 (λ h. (hb, two≡ (omega arith) refl)) λ n15. tt
 
@@ -238,15 +238,15 @@ module _ (a b : ℕ) (hb : b < 256) where
 
 module _ (pre : List ℕ) (w : Width) (a b : ℕ) (hb : b < 256) (hd : Digit w (b % 16)) where
   -- @ER, and @ER+ with @-ER
-  at-good : (m : ℕ → Place) → ((e : ℕ) → e < 8 → HasPlace w (m e)) → ((dir : Dir) (e r : ℕ) → code_of (Move dir w (m e) r) ≡ pre ++ (a ∷ (dir_digit dir + e) · r ∷ []))
+  at_good : (m : ℕ → Place) → ((e : ℕ) → e < 8 → HasPlace w (m e)) → ((dir : Dir) (e r : ℕ) → code_of (Move dir w (m e) r) ≡ pre ++ (a ∷ (dir_digit dir + e) · r ∷ []))
       → Good pre a b (pick (ltb b 128) (Whole (Move Load w (m (b / 16)) (b % 16))) (Whole (Move Store w (m (b / 16 - 8)) (b % 16))))
-  at-good m p f =
+  at_good m p f =
       if< (Good pre a b) b 128
       (λ h. ((p (b / 16) (omega arith), hd), f Load (b / 16) (b % 16) ∙ ap (λ x. pre ++ (a ∷ x ∷ [])) (omega arith)))
       (λ h. ((p (b / 16 - 8) (omega arith), hd), f Store (b / 16 - 8) (b % 16) ∙ ap (λ x. pre ++ (a ∷ x ∷ [])) (omega arith)))
 
-  disp-good : ((dir : Dir) (e d r : ℕ) → code_of (Move dir w (Disp e d) r) ≡ pre ++ (a ∷ (dir_digit dir + e) · r ∷ be16 d)) → Good pre a b (memory_of w Displaced b)
-  disp-good f =
+  disp_good : ((dir : Dir) (e d r : ℕ) → code_of (Move dir w (Disp e d) r) ≡ pre ++ (a ∷ (dir_digit dir + e) · r ∷ be16 d)) → Good pre a b (memory_of w Displaced b)
+  disp_good f =
       if< (Good pre a b) b 128
       (λ h x y hx hy. (
         ((omega arith, omega arith), hd),
@@ -257,9 +257,9 @@ module _ (pre : List ℕ) (w : Width) (a b : ℕ) (hb : b < 256) (hd : Digit w (
         f Store (b / 16 - 8) ((x * 256 + y) % 65536) (b % 16) ∙ four≡ pre refl (omega arith) (omega arith) (omega arith),
       ))
 
-  abs-good : ((dir : Dir) (v r : ℕ) → code_of (Move dir w (Abs16 v) r) ≡ pre ++ (a ∷ (dir_digit dir + 0) · r ∷ be16 v))
+  abs_good : ((dir : Dir) (v r : ℕ) → code_of (Move dir w (Abs16 v) r) ≡ pre ++ (a ∷ (dir_digit dir + 0) · r ∷ be16 v))
       → ((dir : Dir) (v r : ℕ) → code_of (Move dir w (Abs24 v) r) ≡ pre ++ (a ∷ (dir_digit dir + 2) · r ∷ 0 ∷ be24 v)) → Good pre a b (memory_of w Absolute b)
-  abs-good f g =
+  abs_good f g =
       if< (Good pre a b) b 128
       (λ h. if≡ (Good pre a b) (b / 16) 0
       (λ k x y hx hy. ((omega arith, hd), f Load ((x * 256 + y) % 65536) (b % 16) ∙ four≡ pre refl (omega arith) (omega arith) (omega arith))) λ n0.
@@ -314,43 +314,43 @@ low a = omega arith
 
 module _ (a b : ℕ) (hb : b < 256) where
   -- a bit in a byte register
-  reads-part : (k : ℕ) → k ≡ a → Good [] a b (reads_part k b)
-  reads-part k e = subst (λ x. Good [] x b (reads_part k b)) e (reads-good [] k b hb (InPart (b % 16)) (omega arith) (λ byte n. refl))
+  reads_part_lem : (k : ℕ) → k ≡ a → Good [] a b (reads_part k b)
+  reads_part_lem k e = subst (λ x. Good [] x b (reads_part k b)) e (reads_good [] k b hb (InPart (b % 16)) (omega arith) (λ byte n. refl))
 
-  writes-part : (k : ℕ) → k ≡ a → Good [] a b (writes_part k b)
-  writes-part k e = subst (λ x. Good [] x b (writes_part k b)) e (writes-good [] k b hb (InPart (b % 16)) (omega arith) (λ byte n. refl))
+  writes_part_lem : (k : ℕ) → k ≡ a → Good [] a b (writes_part k b)
+  writes_part_lem k e = subst (λ x. Good [] x b (writes_part k b)) e (writes_good [] k b hb (InPart (b % 16)) (omega arith) (λ byte n. refl))
 
-  row6-good : a / 16 ≡ 6 → Good [] a b (row6 (a % 16) b)
-  row6-good z =
-      if≡ (Good [] a b) (a % 16) 0 (λ h. writes-part 0x60 (omega arith)) λ n0.
-      if≡ (Good [] a b) (a % 16) 1 (λ h. writes-part 0x61 (omega arith)) λ n1.
-      if≡ (Good [] a b) (a % 16) 2 (λ h. writes-part 0x62 (omega arith)) λ n2.
-      if≡ (Good [] a b) (a % 16) 3 (λ h. reads-part 0x63 (omega arith)) λ n3.
+  row6_good : a / 16 ≡ 6 → Good [] a b (row6 (a % 16) b)
+  row6_good z =
+      if≡ (Good [] a b) (a % 16) 0 (λ h. writes_part_lem 0x60 (omega arith)) λ n0.
+      if≡ (Good [] a b) (a % 16) 1 (λ h. writes_part_lem 0x61 (omega arith)) λ n1.
+      if≡ (Good [] a b) (a % 16) 2 (λ h. writes_part_lem 0x62 (omega arith)) λ n2.
+      if≡ (Good [] a b) (a % 16) 3 (λ h. reads_part_lem 0x63 (omega arith)) λ n3.
       if≡ (Good [] a b) (a % 16) 4 (λ h. (omega arith, two≡ (omega arith) (omega arith))) λ n4.
       if≡ (Good [] a b) (a % 16) 5 (λ h. (omega arith, two≡ (omega arith) (omega arith))) λ n5.
       if≡ (Good [] a b) (a % 16) 6 (λ h. (omega arith, two≡ (omega arith) (omega arith))) λ n6.
-      if≡ (Good [] a b) (a % 16) 7 (λ h. writes-part 0x67 (omega arith)) λ n7.
-      if≡ (Good [] a b) (a % 16) 8 (λ h. at-good [] Byte a b hb (omega arith) At (λ e k. k) (λ dir e r. two≡ (omega arith) refl)) λ n8.
-      if≡ (Good [] a b) (a % 16) 9 (λ h. at-good [] Word a b hb (omega arith) At (λ e k. k) (λ dir e r. two≡ (omega arith) refl)) λ n9.
+      if≡ (Good [] a b) (a % 16) 7 (λ h. writes_part_lem 0x67 (omega arith)) λ n7.
+      if≡ (Good [] a b) (a % 16) 8 (λ h. at_good [] Byte a b hb (omega arith) At (λ e k. k) (λ dir e r. two≡ (omega arith) refl)) λ n8.
+      if≡ (Good [] a b) (a % 16) 9 (λ h. at_good [] Word a b hb (omega arith) At (λ e k. k) (λ dir e r. two≡ (omega arith) refl)) λ n9.
       if≡ (Good [] a b) (a % 16) 10
-      (λ h. abs-good [] Byte a b hb (omega arith) (λ dir v r. four≡ [] (omega arith) refl refl refl) (λ dir v r. six≡ [] (omega arith) refl refl refl refl)) λ n10.
+      (λ h. abs_good [] Byte a b hb (omega arith) (λ dir v r. four≡ [] (omega arith) refl refl refl) (λ dir v r. six≡ [] (omega arith) refl refl refl refl)) λ n10.
       if≡ (Good [] a b) (a % 16) 11
-      (λ h. abs-good [] Word a b hb (omega arith) (λ dir v r. four≡ [] (omega arith) refl refl refl) (λ dir v r. six≡ [] (omega arith) refl refl refl refl)) λ n11.
-      if≡ (Good [] a b) (a % 16) 12 (λ h. at-good [] Byte a b hb (omega arith) Step (λ e k. k) (λ dir e r. two≡ (omega arith) refl)) λ n12.
-      if≡ (Good [] a b) (a % 16) 13 (λ h. at-good [] Word a b hb (omega arith) Step (λ e k. k) (λ dir e r. two≡ (omega arith) refl)) λ n13.
-      if≡ (Good [] a b) (a % 16) 14 (λ h. disp-good [] Byte a b hb (omega arith) (λ dir e d r. four≡ [] (omega arith) refl refl refl)) λ n14.
-      if≡ (Good [] a b) (a % 16) 15 (λ h. disp-good [] Word a b hb (omega arith) (λ dir e d r. four≡ [] (omega arith) refl refl refl)) λ n15. tt
+      (λ h. abs_good [] Word a b hb (omega arith) (λ dir v r. four≡ [] (omega arith) refl refl refl) (λ dir v r. six≡ [] (omega arith) refl refl refl refl)) λ n11.
+      if≡ (Good [] a b) (a % 16) 12 (λ h. at_good [] Byte a b hb (omega arith) Step (λ e k. k) (λ dir e r. two≡ (omega arith) refl)) λ n12.
+      if≡ (Good [] a b) (a % 16) 13 (λ h. at_good [] Word a b hb (omega arith) Step (λ e k. k) (λ dir e r. two≡ (omega arith) refl)) λ n13.
+      if≡ (Good [] a b) (a % 16) 14 (λ h. disp_good [] Byte a b hb (omega arith) (λ dir e d r. four≡ [] (omega arith) refl refl refl)) λ n14.
+      if≡ (Good [] a b) (a % 16) 15 (λ h. disp_good [] Word a b hb (omega arith) (λ dir e d r. four≡ [] (omega arith) refl refl refl)) λ n15. tt
 
-  row7-good : a / 16 ≡ 7 → Good [] a b (row7 (a % 16) b)
-  row7-good z =
-      if≡ (Good [] a b) (a % 16) 0 (λ h. writes-part 0x70 (omega arith)) λ n0.
-      if≡ (Good [] a b) (a % 16) 1 (λ h. writes-part 0x71 (omega arith)) λ n1.
-      if≡ (Good [] a b) (a % 16) 2 (λ h. writes-part 0x72 (omega arith)) λ n2.
-      if≡ (Good [] a b) (a % 16) 3 (λ h. reads-part 0x73 (omega arith)) λ n3.
-      if≡ (Good [] a b) (a % 16) 4 (λ h. reads-part 0x74 (omega arith)) λ n4.
-      if≡ (Good [] a b) (a % 16) 5 (λ h. reads-part 0x75 (omega arith)) λ n5.
-      if≡ (Good [] a b) (a % 16) 6 (λ h. reads-part 0x76 (omega arith)) λ n6.
-      if≡ (Good [] a b) (a % 16) 7 (λ h. reads-part 0x77 (omega arith)) λ n7.
+  row7_good : a / 16 ≡ 7 → Good [] a b (row7 (a % 16) b)
+  row7_good z =
+      if≡ (Good [] a b) (a % 16) 0 (λ h. writes_part_lem 0x70 (omega arith)) λ n0.
+      if≡ (Good [] a b) (a % 16) 1 (λ h. writes_part_lem 0x71 (omega arith)) λ n1.
+      if≡ (Good [] a b) (a % 16) 2 (λ h. writes_part_lem 0x72 (omega arith)) λ n2.
+      if≡ (Good [] a b) (a % 16) 3 (λ h. reads_part_lem 0x73 (omega arith)) λ n3.
+      if≡ (Good [] a b) (a % 16) 4 (λ h. reads_part_lem 0x74 (omega arith)) λ n4.
+      if≡ (Good [] a b) (a % 16) 5 (λ h. reads_part_lem 0x75 (omega arith)) λ n5.
+      if≡ (Good [] a b) (a % 16) 6 (λ h. reads_part_lem 0x76 (omega arith)) λ n6.
+      if≡ (Good [] a b) (a % 16) 7 (λ h. reads_part_lem 0x77 (omega arith)) λ n7.
       if≡ (Good [] a b) (a % 16) 9
       (λ k. if< (Good [] a b) b 0x70
       (λ h x y hx hy.
@@ -365,7 +365,7 @@ module _ (a b : ℕ) (hb : b < 256) where
       (λ m x y u v hx hy hu hv.
       let o = next_op_lem (b / 16) (omega arith) in (
         (o.1, omega arith, m),
-        (λ i. 0x7A≡a k i ∷ (ap (λ d. d · (b % 16)) o.2 ∙ div-add-mod' b 16) i ∷ n32-0 x y u v hy hu hv i ∷ n32-1 x y u v hy hu hv i ∷ n32-2 x y u v hy hu hv i ∷ n32-3 x y u v hy hu hv i ∷ []),
+        (λ i. 0x7A≡a k i ∷ (ap (λ d. d · (b % 16)) o.2 ∙ div-add-mod' b 16) i ∷ n32_0 x y u v hy hu hv i ∷ n32_1 x y u v hy hu hv i ∷ n32_2 x y u v hy hu hv i ∷ n32_3 x y u v hy hu hv i ∷ []),
       ))
       (λ m. tt))
       (λ h. tt)) λ n10. tt
@@ -373,97 +373,97 @@ module _ (a b : ℕ) (hb : b < 256) where
       0x7A≡a : a % 16 ≡ 10 → 0x7A ≡ a
       0x7A≡a k = omega arith
 
-      n32-0 : (x y u v : ℕ) → y < 256 → u < 256 → v < 256 → (x * 16777216 + y * 65536 + u * 256 + v) / 16777216 ≡ x
-      n32-0 x y u v hy hu hv = omega arith
+      n32_0 : (x y u v : ℕ) → y < 256 → u < 256 → v < 256 → (x * 16777216 + y * 65536 + u * 256 + v) / 16777216 ≡ x
+      n32_0 x y u v hy hu hv = omega arith
 
-      n32-1 : (x y u v : ℕ) → y < 256 → u < 256 → v < 256 → (x * 16777216 + y * 65536 + u * 256 + v) / 65536 % 256 ≡ y
-      n32-1 x y u v hy hu hv = omega arith
+      n32_1 : (x y u v : ℕ) → y < 256 → u < 256 → v < 256 → (x * 16777216 + y * 65536 + u * 256 + v) / 65536 % 256 ≡ y
+      n32_1 x y u v hy hu hv = omega arith
 
-      n32-2 : (x y u v : ℕ) → y < 256 → u < 256 → v < 256 → (x * 16777216 + y * 65536 + u * 256 + v) / 256 % 256 ≡ u
-      n32-2 x y u v hy hu hv = omega arith
+      n32_2 : (x y u v : ℕ) → y < 256 → u < 256 → v < 256 → (x * 16777216 + y * 65536 + u * 256 + v) / 256 % 256 ≡ u
+      n32_2 x y u v hy hu hv = omega arith
 
-      n32-3 : (x y u v : ℕ) → y < 256 → u < 256 → v < 256 → (x * 16777216 + y * 65536 + u * 256 + v) % 256 ≡ v
-      n32-3 x y u v hy hu hv = omega arith
+      n32_3 : (x y u v : ℕ) → y < 256 → u < 256 → v < 256 → (x * 16777216 + y * 65536 + u * 256 + v) % 256 ≡ v
+      n32_3 x y u v hy hu hv = omega arith
 
-  pub plan-good : a < 256 → Good [] a b (plan_of a b)
-  plan-good ha =
-      if≡ (Good [] a b) (a / 16) 0 (row0-good a b hb) λ n0.
-      if≡ (Good [] a b) (a / 16) 1 (row1-good a b hb) λ n1.
+  pub plan_good : a < 256 → Good [] a b (plan_of a b)
+  plan_good ha =
+      if≡ (Good [] a b) (a / 16) 0 (row0_good a b hb) λ n0.
+      if≡ (Good [] a b) (a / 16) 1 (row1_good a b hb) λ n1.
       if≡ (Good [] a b) (a / 16) 2 (λ h. (((tt, hb), omega arith), two≡ (omega arith) refl)) λ n2.
       if≡ (Good [] a b) (a / 16) 3 (λ h. (((tt, hb), omega arith), two≡ (omega arith) refl)) λ n3.
       if≡ (Good [] a b) (a / 16) 4 (λ h. ((omega arith, hb), two≡ (omega arith) refl)) λ n4.
-      if≡ (Good [] a b) (a / 16) 5 (row5-good a b hb) λ n5.
-      if≡ (Good [] a b) (a / 16) 6 row6-good λ n6.
-      if≡ (Good [] a b) (a / 16) 7 row7-good λ n7.
+      if≡ (Good [] a b) (a / 16) 5 (row5_good a b hb) λ n5.
+      if≡ (Good [] a b) (a / 16) 6 row6_good λ n6.
+      if≡ (Good [] a b) (a / 16) 7 row7_good λ n7.
       let o = first_op_lem (a / 16) (past 7 (past 6 (past 5 (past 4 (past 3 (past 2 (past 1 (past 0 zero-le n0) n1) n2) n3) n4) n5) n6) n7) (high a ha) in
       ((o.0, hb, low a), two≡ (ap (λ d. d · (a % 16)) o.1 ∙ div-add-mod' a 16) refl)
 
 -- ---- the second word
 
 module _ (c d : ℕ) (hd : d < 256) where
-  long-memory : (mode : Mode) → (d % 16 < 8 → Good (1 ∷ 0 ∷ []) c d (memory_of Long mode d)) → Good (1 ∷ 0 ∷ []) c d (long_memory mode d)
-  long-memory mode f = if< (Good (1 ∷ 0 ∷ []) c d) (d % 16) 8 f (λ h. tt)
+  long_memory_lem : (mode : Mode) → (d % 16 < 8 → Good (1 ∷ 0 ∷ []) c d (memory_of Long mode d)) → Good (1 ∷ 0 ∷ []) c d (long_memory mode d)
+  long_memory_lem mode f = if< (Good (1 ∷ 0 ∷ []) c d) (d % 16) 8 f (λ h. tt)
 
-  after00-good : Good (1 ∷ 0 ∷ []) c d (after00 c d)
-  after00-good =
+  after00_good : Good (1 ∷ 0 ∷ []) c d (after00 c d)
+  after00_good =
       if≡ (Good (1 ∷ 0 ∷ []) c d) c 0x69
-      (λ h. long-memory Plain (λ k. at-good (1 ∷ 0 ∷ []) Long c d hd k At (λ e m. m) (λ dir e r. ap (λ x. 1 ∷ 0 ∷ x ∷ (dir_digit dir + e) · r ∷ []) (sym h)))) λ n69.
+      (λ h. long_memory_lem Plain (λ k. at_good (1 ∷ 0 ∷ []) Long c d hd k At (λ e m. m) (λ dir e r. ap (λ x. 1 ∷ 0 ∷ x ∷ (dir_digit dir + e) · r ∷ []) (sym h)))) λ n69.
       if≡ (Good (1 ∷ 0 ∷ []) c d) c 0x6B
-      (λ h. long-memory Absolute (λ k. abs-good (1 ∷ 0 ∷ []) Long c d hd k (λ dir v r. four≡ (1 ∷ 0 ∷ []) (sym h) refl refl refl) (λ dir v r. six≡ (1 ∷ 0 ∷ []) (sym h) refl refl refl refl))) λ n6B.
+      (λ h. long_memory_lem Absolute (λ k. abs_good (1 ∷ 0 ∷ []) Long c d hd k (λ dir v r. four≡ (1 ∷ 0 ∷ []) (sym h) refl refl refl) (λ dir v r. six≡ (1 ∷ 0 ∷ []) (sym h) refl refl refl refl))) λ n6B.
       if≡ (Good (1 ∷ 0 ∷ []) c d) c 0x6D
-      (λ h. long-memory Stepping (λ k. at-good (1 ∷ 0 ∷ []) Long c d hd k Step (λ e m. m) (λ dir e r. ap (λ x. 1 ∷ 0 ∷ x ∷ (dir_digit dir + e) · r ∷ []) (sym h)))) λ n6D.
+      (λ h. long_memory_lem Stepping (λ k. at_good (1 ∷ 0 ∷ []) Long c d hd k Step (λ e m. m) (λ dir e r. ap (λ x. 1 ∷ 0 ∷ x ∷ (dir_digit dir + e) · r ∷ []) (sym h)))) λ n6D.
       if≡ (Good (1 ∷ 0 ∷ []) c d) c 0x6F
-      (λ h. long-memory Displaced (λ k. disp-good (1 ∷ 0 ∷ []) Long c d hd k (λ dir e v r. four≡ (1 ∷ 0 ∷ []) (sym h) refl refl refl))) λ n6F. tt
+      (λ h. long_memory_lem Displaced (λ k. disp_good (1 ∷ 0 ∷ []) Long c d hd k (λ dir e v r. four≡ (1 ∷ 0 ∷ []) (sym h) refl refl refl))) λ n6F. tt
 
-  long-logic : (op : Op) → (d < 128 → d % 16 < 8 → Good (1 ∷ 0xF0 ∷ []) c d (reg_reg op Long d)) → Good (1 ∷ 0xF0 ∷ []) c d (long_logic op d)
-  long-logic op f = if< (Good (1 ∷ 0xF0 ∷ []) c d) d 128 (λ h. if< (Good (1 ∷ 0xF0 ∷ []) c d) (d % 16) 8 (λ k. f h k) (λ k. tt)) (λ h. tt)
+  long_logic_lem : (op : Op) → (d < 128 → d % 16 < 8 → Good (1 ∷ 0xF0 ∷ []) c d (reg_reg op Long d)) → Good (1 ∷ 0xF0 ∷ []) c d (long_logic op d)
+  long_logic_lem op f = if< (Good (1 ∷ 0xF0 ∷ []) c d) d 128 (λ h. if< (Good (1 ∷ 0xF0 ∷ []) c d) (d % 16) 8 (λ k. f h k) (λ k. tt)) (λ h. tt)
 
-  afterF0-good : Good (1 ∷ 0xF0 ∷ []) c d (after_f0 c d)
-  afterF0-good =
-      if≡ (Good (1 ∷ 0xF0 ∷ []) c d) c 0x64 (λ h. long-logic Or (λ k m. (omega arith, four≡ [] refl refl (sym h) (omega arith)))) λ n64.
-      if≡ (Good (1 ∷ 0xF0 ∷ []) c d) c 0x65 (λ h. long-logic Xor (λ k m. (omega arith, four≡ [] refl refl (sym h) (omega arith)))) λ n65.
-      if≡ (Good (1 ∷ 0xF0 ∷ []) c d) c 0x66 (λ h. long-logic And (λ k m. (omega arith, four≡ [] refl refl (sym h) (omega arith)))) λ n66. tt
+  after_f0_good : Good (1 ∷ 0xF0 ∷ []) c d (after_f0 c d)
+  after_f0_good =
+      if≡ (Good (1 ∷ 0xF0 ∷ []) c d) c 0x64 (λ h. long_logic_lem Or (λ k m. (omega arith, four≡ [] refl refl (sym h) (omega arith)))) λ n64.
+      if≡ (Good (1 ∷ 0xF0 ∷ []) c d) c 0x65 (λ h. long_logic_lem Xor (λ k m. (omega arith, four≡ [] refl refl (sym h) (omega arith)))) λ n65.
+      if≡ (Good (1 ∷ 0xF0 ∷ []) c d) c 0x66 (λ h. long_logic_lem And (λ k m. (omega arith, four≡ [] refl refl (sym h) (omega arith)))) λ n66. tt
 
-  afterC0-good : Good (1 ∷ 0xC0 ∷ []) c d (after_c0 c d)
-  afterC0-good =
+  after_c0_good : Good (1 ∷ 0xC0 ∷ []) c d (after_c0 c d)
+  after_c0_good =
       if≡ (Good (1 ∷ 0xC0 ∷ []) c d) c 0x50
       (λ h. product_good (1 ∷ 0xC0 ∷ []) c d hd Eight (Multiply Signed Eight) (λ s e v w. (v, w)) (λ s e. four≡ [] refl refl (sym h) refl)) λ n50.
       if≡ (Good (1 ∷ 0xC0 ∷ []) c d) c 0x52
       (λ h. product_good (1 ∷ 0xC0 ∷ []) c d hd Sixteen (Multiply Signed Sixteen) (λ s e v w. (v, w)) (λ s e. four≡ [] refl refl (sym h) refl)) λ n52. tt
 
-  afterD0-good : Good (1 ∷ 0xD0 ∷ []) c d (after_d0 c d)
-  afterD0-good =
+  after_d0_good : Good (1 ∷ 0xD0 ∷ []) c d (after_d0 c d)
+  after_d0_good =
       if≡ (Good (1 ∷ 0xD0 ∷ []) c d) c 0x51
       (λ h. product_good (1 ∷ 0xD0 ∷ []) c d hd Eight (Divide Signed Eight) (λ s e v w. (v, w)) (λ s e. four≡ [] refl refl (sym h) refl)) λ n51.
       if≡ (Good (1 ∷ 0xD0 ∷ []) c d) c 0x53
       (λ h. product_good (1 ∷ 0xD0 ∷ []) c d hd Sixteen (Divide Signed Sixteen) (λ s e v w. (v, w)) (λ s e. four≡ [] refl refl (sym h) refl)) λ n53. tt
 
-  after01-good : (b : ℕ) → Good (1 ∷ b ∷ []) c d (after01 b c d)
-  after01-good b =
-      if≡ (Good (1 ∷ b ∷ []) c d) b 0 (λ h. subst (λ x. Good (1 ∷ x ∷ []) c d (after00 c d)) (sym h) after00-good) λ n0.
-      if≡ (Good (1 ∷ b ∷ []) c d) b 0xC0 (λ h. subst (λ x. Good (1 ∷ x ∷ []) c d (after_c0 c d)) (sym h) afterC0-good) λ nC0.
-      if≡ (Good (1 ∷ b ∷ []) c d) b 0xD0 (λ h. subst (λ x. Good (1 ∷ x ∷ []) c d (after_d0 c d)) (sym h) afterD0-good) λ nD0.
-      if≡ (Good (1 ∷ b ∷ []) c d) b 0xF0 (λ h. subst (λ x. Good (1 ∷ x ∷ []) c d (after_f0 c d)) (sym h) afterF0-good) λ nF0. tt
+  after01_good : (b : ℕ) → Good (1 ∷ b ∷ []) c d (after01 b c d)
+  after01_good b =
+      if≡ (Good (1 ∷ b ∷ []) c d) b 0 (λ h. subst (λ x. Good (1 ∷ x ∷ []) c d (after00 c d)) (sym h) after00_good) λ n0.
+      if≡ (Good (1 ∷ b ∷ []) c d) b 0xC0 (λ h. subst (λ x. Good (1 ∷ x ∷ []) c d (after_c0 c d)) (sym h) after_c0_good) λ nC0.
+      if≡ (Good (1 ∷ b ∷ []) c d) b 0xD0 (λ h. subst (λ x. Good (1 ∷ x ∷ []) c d (after_d0 c d)) (sym h) after_d0_good) λ nD0.
+      if≡ (Good (1 ∷ b ∷ []) c d) b 0xF0 (λ h. subst (λ x. Good (1 ∷ x ∷ []) c d (after_f0 c d)) (sym h) after_f0_good) λ nF0. tt
 
   module _ (a b : ℕ) (hb : b < 256) where
     -- 7C to 7F, and the byte in memory that they name with b
-    reads-memory : (spot : Spot) → HasSpot spot → ((byte n : ℕ) → spot_code 0x7C spot byte n ≡ a ∷ b ∷ byte ∷ n · 0 ∷ [])
+    reads_memory : (spot : Spot) → HasSpot spot → ((byte n : ℕ) → spot_code 0x7C spot byte n ≡ a ∷ b ∷ byte ∷ n · 0 ∷ [])
         → Good (a ∷ b ∷ []) c d (exactly (d % 16) 0 (reads_of c d spot))
-    reads-memory spot hs f =
+    reads_memory spot hs f =
         if≡ (Good (a ∷ b ∷ []) c d) (d % 16) 0
-        (λ k. reads-good (a ∷ b ∷ []) c d hd spot hs (λ byte n. f byte n ∙ ap (λ x. a ∷ b ∷ byte ∷ n · x ∷ []) (sym k))) (λ n. tt)
+        (λ k. reads_good (a ∷ b ∷ []) c d hd spot hs (λ byte n. f byte n ∙ ap (λ x. a ∷ b ∷ byte ∷ n · x ∷ []) (sym k))) (λ n. tt)
 
     writes_memory : (spot : Spot) → HasSpot spot → ((byte n : ℕ) → spot_code 0x7D spot byte n ≡ a ∷ b ∷ byte ∷ n · 0 ∷ [])
         → Good (a ∷ b ∷ []) c d (exactly (d % 16) 0 (writes_of c d spot))
     writes_memory spot hs f =
         if≡ (Good (a ∷ b ∷ []) c d) (d % 16) 0
-        (λ k. writes-good (a ∷ b ∷ []) c d hd spot hs (λ byte n. f byte n ∙ ap (λ x. a ∷ b ∷ byte ∷ n · x ∷ []) (sym k))) (λ n. tt)
+        (λ k. writes_good (a ∷ b ∷ []) c d hd spot hs (λ byte n. f byte n ∙ ap (λ x. a ∷ b ∷ byte ∷ n · x ∷ []) (sym k))) (λ n. tt)
 
-    memory-bit-good : Good (a ∷ b ∷ []) c d (memory_bit a b c d)
-    memory-bit-good =
-        if≡ P a 0x7C (λ h. if_e_zero P b (λ z e. behind 0x7C h (reads-memory (AtEr (b / 16)) e (λ byte n. four≡ [] (sym h) (omega arith) refl refl))) tt) λ n7C.
+    memory_bit_good : Good (a ∷ b ∷ []) c d (memory_bit a b c d)
+    memory_bit_good =
+        if≡ P a 0x7C (λ h. if_e_zero P b (λ z e. behind 0x7C h (reads_memory (AtEr (b / 16)) e (λ byte n. four≡ [] (sym h) (omega arith) refl refl))) tt) λ n7C.
         if≡ P a 0x7D (λ h. if_e_zero P b (λ z e. behind 0x7D h (writes_memory (AtEr (b / 16)) e (λ byte n. four≡ [] (sym h) (omega arith) refl refl))) tt) λ n7D.
-        if≡ P a 0x7E (λ h. behind 0x7E h (reads-memory (AtAbs b) hb (λ byte n. four≡ [] (sym h) refl refl refl))) λ n7E.
+        if≡ P a 0x7E (λ h. behind 0x7E h (reads_memory (AtAbs b) hb (λ byte n. four≡ [] (sym h) refl refl refl))) λ n7E.
         if≡ P a 0x7F (λ h. behind 0x7F h (writes_memory (AtAbs b) hb (λ byte n. four≡ [] (sym h) refl refl refl))) λ n7F. tt
       where
         P : Bool → Type 0
@@ -472,6 +472,6 @@ module _ (c d : ℕ) (hd : d < 256) where
         behind : (k : ℕ) → a ≡ k → Good (a ∷ b ∷ []) c d (exactly (d % 16) 0 (bit_word k c d (named_spot k b))) → P true
         behind k h g = subst (λ x. Good (a ∷ b ∷ []) c d (exactly (d % 16) 0 (bit_word x c d (named_spot x b)))) (sym h) g
 
-    pub after-good : Good (a ∷ b ∷ []) c d (after_of a b c d)
-    after-good =
-        if≡ (Good (a ∷ b ∷ []) c d) a 0x01 (λ h. subst (λ x. Good (x ∷ b ∷ []) c d (after01 b c d)) (sym h) (after01-good b)) λ n01. memory-bit-good
+    pub after_good : Good (a ∷ b ∷ []) c d (after_of a b c d)
+    after_good =
+        if≡ (Good (a ∷ b ∷ []) c d) a 0x01 (λ h. subst (λ x. Good (x ∷ b ∷ []) c d (after01 b c d)) (sym h) (after01_good b)) λ n01. memory_bit_good

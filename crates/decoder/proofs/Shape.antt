@@ -314,13 +314,13 @@ module _ (lead : ℕ) (plan : ℕ → ℕ → Spot → Plan) (er : two_words lea
     (cut-er : (b : ℕ) → prefix_of lead b ≡ pick (is_ezero b) Cut Unlisted) (cut-abs : (b : ℕ) → prefix_of (lead + 2) b ≡ Cut)
     (after-er : (b c d : ℕ) → after_of lead b c d ≡ e_zero b (exactly (d % 16) 0 (plan c d (AtEr (b / 16)))))
     (after-abs : (b c d : ℕ) → after_of (lead + 2) b c d ≡ exactly (d % 16) 0 (plan c d (AtAbs b))) where
-  bit-shape : (byte digit : ℕ) (make : Spot → Instruction) → two_words byte ≡ false → starts_of byte ≡ Cut
+  bit_shape : (byte digit : ℕ) (make : Spot → Instruction) → two_words byte ≡ false → starts_of byte ≡ Cut
       → ((b : ℕ) → plan_of byte b ≡ plan byte b (InPart (b % 16))) → ((spot : Spot) → begun_of (plan byte 0 spot) ≡ Cut)
       → ((spot : Spot) (d : ℕ) → d < 16 → plan byte (digit · d) spot ≡ Whole (make spot))
       → (spot : Spot) → HasSpot spot → Shape (make spot) (spot_code lead spot byte digit)
-  bit-shape byte digit make n st f cut g (InPart d) v =
+  bit_shape byte digit make n st f cut g (InPart d) v =
       one n st (f (digit · d) ∙ ap (λ x. plan byte (digit · d) (InPart x)) (digits_mod digit v) ∙ g (InPart d) d v)
-  bit-shape byte digit make n st f cut g (AtEr e) v =
+  bit_shape byte digit make n st f cut g (AtEr e) v =
       long {a = lead} {b = e · 0} {c = byte} {d = digit · 0} er
       (cut-er (e · 0) ∙ cut_e_zero e v)
       (ap begun_of (after-er (e · 0) byte 0 ∙ at_e_zero (λ x. plan byte 0 (AtEr x)) e v) ∙ cut (AtEr e))
@@ -328,7 +328,7 @@ module _ (lead : ℕ) (plan : ℕ → ℕ → Spot → Plan) (er : two_words lea
       ∙ at_e_zero (λ x. exactly ((digit · 0) % 16) 0 (plan byte (digit · 0) (AtEr x))) e v
       ∙ taken {x = (digit · 0) % 16} {k = 0} (omega arith)
       ∙ g (AtEr e) 0 (omega arith)))
-  bit-shape byte digit make n st f cut g (AtAbs a) v =
+  bit_shape byte digit make n st f cut g (AtAbs a) v =
       long {a = lead + 2} {b = a} {c = byte} {d = digit · 0} abs
       (cut-abs a)
       (ap begun_of (after-abs a byte 0) ∙ cut (AtAbs a))
@@ -338,13 +338,13 @@ reads : (byte digit : ℕ) (make : Spot → Instruction) → two_words byte ≡ 
     → ((b : ℕ) → plan_of byte b ≡ reads_of byte b (InPart (b % 16))) → ((spot : Spot) → begun_of (reads_of byte 0 spot) ≡ Cut)
     → ((spot : Spot) (d : ℕ) → d < 16 → reads_of byte (digit · d) spot ≡ Whole (make spot))
     → (spot : Spot) → HasSpot spot → Shape (make spot) (spot_code 0x7C spot byte digit)
-reads = bit-shape 0x7C reads_of refl refl (λ b. refl) (λ b. refl) (λ b c d. refl) (λ b c d. refl)
+reads = bit_shape 0x7C reads_of refl refl (λ b. refl) (λ b. refl) (λ b c d. refl) (λ b c d. refl)
 
 writes : (byte digit : ℕ) (make : Spot → Instruction) → two_words byte ≡ false → starts_of byte ≡ Cut
     → ((b : ℕ) → plan_of byte b ≡ writes_of byte b (InPart (b % 16))) → ((spot : Spot) → begun_of (writes_of byte 0 spot) ≡ Cut)
     → ((spot : Spot) (d : ℕ) → d < 16 → writes_of byte (digit · d) spot ≡ Whole (make spot))
     → (spot : Spot) → HasSpot spot → Shape (make spot) (spot_code 0x7D spot byte digit)
-writes = bit-shape 0x7D writes_of refl refl (λ b. refl) (λ b. refl) (λ b c d. refl) (λ b c d. refl)
+writes = bit_shape 0x7D writes_of refl refl (λ b. refl) (λ b. refl) (λ b c d. refl) (λ b c d. refl)
 
 -- a bit's number in the upper digit of a second byte; with 8 added, the inverted instruction's
 is_low : (n d : ℕ) → n < 8 → d < 16 → ltb ((0 + n) · d) 128 ≡ true

@@ -16,7 +16,7 @@ use Rattle.codes.specs.Exact.{Bytes, Begins, CutOf}
 use Rattle.decoder.specs.MirrorDecode.{tail_of_rest, fill_of, with16, with32, with24, by_tail, finish_of, begun_of, two_words, starts_of, prefix01, prefix_of, prefixed_of, found_of}
 use Rattle.decoder.specs.MirrorWords.{pick, plan_of, after_of}
 use Rattle.decoder.proofs.Complete.{word_first, word_second, sixteen, thirty_two, zero_first, not_zero_first}
-use Rattle.decoder.proofs.Good.{Codes, Good2, Good3, Good4, GoodTail, Good, if≡, if_e_zero, four≡, plan-good, after-good}
+use Rattle.decoder.proofs.Good.{Codes, Good2, Good3, Good4, GoodTail, Good, if≡, if_e_zero, four≡, plan_good, after_good}
 
 -- what an answer says of the bytes, but for `Unlisted`
 abbrev pub Sound : List ℕ → Found → Type 0
@@ -55,22 +55,22 @@ module _ (pre : List ℕ) (a b : ℕ) where
       (found (fill_of q (x * 256 + y)) (x ∷ y ∷ []) t (n + 2) (g x y h.0 h.1.0) (omega arith))
 
   -- the four bytes, of which the first is there
-  sound32-from : (q : Rest) (x : ℕ)
+  sound32_from : (q : Rest) (x : ℕ)
       → ((y z w : ℕ) → y < 256 → z < 256 → w < 256 → Codes pre a b (fill_of q (x * 16777216 + y * 65536 + z * 256 + w)) (x ∷ y ∷ z ∷ w ∷ []))
       → (t : List ℕ) → Bytes t → (n : ℕ) → n ≡ length pre + 2 → Sound (pre ++ (a ∷ b ∷ x ∷ t)) (with32 q (x ∷ t) n)
-  sound32-from q x g [] h n e = begun (fill_of q (x * 16777216 + 0 * 65536 + 0 * 256 + 0)) (x ∷ []) 0 (0 ∷ 0 ∷ []) (g 0 0 0 (omega arith) (omega arith) (omega arith))
-  sound32-from q x g (y ∷ []) h n e =
+  sound32_from q x g [] h n e = begun (fill_of q (x * 16777216 + 0 * 65536 + 0 * 256 + 0)) (x ∷ []) 0 (0 ∷ 0 ∷ []) (g 0 0 0 (omega arith) (omega arith) (omega arith))
+  sound32_from q x g (y ∷ []) h n e =
       begun (fill_of q (x * 16777216 + y * 65536 + 0 * 256 + 0)) (x ∷ y ∷ []) 0 (0 ∷ []) (g y 0 0 h.0 (omega arith) (omega arith))
-  sound32-from q x g (y ∷ z ∷ []) h n e =
+  sound32_from q x g (y ∷ z ∷ []) h n e =
       begun (fill_of q (x * 16777216 + y * 65536 + z * 256 + 0)) (x ∷ y ∷ z ∷ []) 0 [] (g y z 0 h.0 h.1.0 (omega arith))
-  sound32-from q x g (y ∷ z ∷ w ∷ t) h n e =
+  sound32_from q x g (y ∷ z ∷ w ∷ t) h n e =
       by (pre ++ (a ∷ b ∷ x ∷ y ∷ z ∷ w ∷ t)) (thirty_two q x y z w t n)
       (found (fill_of q (x * 16777216 + y * 65536 + z * 256 + w)) (x ∷ y ∷ z ∷ w ∷ []) t (n + 4) (g y z w h.0 h.1.0 h.1.1.0) (omega arith))
 
   sound32 : (q : Rest) → Good4 pre a b q → (t : List ℕ) → Bytes t → (n : ℕ) → n ≡ length pre + 2 → Sound (pre ++ (a ∷ b ∷ t)) (with32 q t n)
   sound32 q g [] h n e =
       begun (fill_of q (0 * 16777216 + 0 * 65536 + 0 * 256 + 0)) [] 0 (0 ∷ 0 ∷ 0 ∷ []) (g 0 0 0 0 (omega arith) (omega arith) (omega arith) (omega arith))
-  sound32 q g (x ∷ t) h n e = sound32-from q x (λ y z w. g x y z w h.0) t h.1 n e
+  sound32 q g (x ∷ t) h n e = sound32_from q x (λ y z w. g x y z w h.0) t h.1 n e
 
   sound24 : (q : Rest) → Good3 pre a b q → (t : List ℕ) → Bytes t → (n : ℕ) → n ≡ length pre + 2 → Sound (pre ++ (a ∷ b ∷ t)) (with24 q t n)
   sound24 q g [] h n e =
@@ -80,18 +80,18 @@ module _ (pre : List ℕ) (a b : ℕ) where
       go : (x ≡ 0) ⊎ (x ≡ 0 → ⊥) → Sound (pre ++ (a ∷ b ∷ x ∷ t)) (with24 q (x ∷ t) n)
       go (inl z) =
           by (pre ++ (a ∷ b ∷ x ∷ t)) (zero_first q x t n z)
-          (subst (λ v. Sound (pre ++ (a ∷ b ∷ v ∷ t)) (with32 q (v ∷ t) n)) (sym z) (sound32-from q 0 g t h.1 n e))
+          (subst (λ v. Sound (pre ++ (a ∷ b ∷ v ∷ t)) (with32 q (v ∷ t) n)) (sym z) (sound32_from q 0 g t h.1 n e))
       go (inr z) = by (pre ++ (a ∷ b ∷ x ∷ t)) (not_zero_first q x t n z) tt
 
-  tail-sound : (k : Tail) (q : Rest) → GoodTail k pre a b q → (t : List ℕ) → Bytes t → (n : ℕ) → n ≡ length pre + 2 → Sound (pre ++ (a ∷ b ∷ t)) (by_tail k q t n)
-  tail-sound Bits16 q g t h n e = sound16 q g t h n e
-  tail-sound Bits24 q g t h n e = sound24 q g t h n e
-  tail-sound Bits32 q g t h n e = sound32 q g t h n e
+  tail_sound : (k : Tail) (q : Rest) → GoodTail k pre a b q → (t : List ℕ) → Bytes t → (n : ℕ) → n ≡ length pre + 2 → Sound (pre ++ (a ∷ b ∷ t)) (by_tail k q t n)
+  tail_sound Bits16 q g t h n e = sound16 q g t h n e
+  tail_sound Bits24 q g t h n e = sound24 q g t h n e
+  tail_sound Bits32 q g t h n e = sound32 q g t h n e
 
-  finish-sound : (p : Plan) → Good pre a b p → (t : List ℕ) → Bytes t → (n : ℕ) → n ≡ length pre + 2 → Sound (pre ++ (a ∷ b ∷ t)) (finish_of p t n)
-  finish-sound (Whole i) g t h n e = found i [] t n g e
-  finish-sound (Lacks q) g t h n e = tail-sound (tail_of_rest q) q g t h n e
-  finish-sound Nothing g t h n e = tt
+  finish_sound : (p : Plan) → Good pre a b p → (t : List ℕ) → Bytes t → (n : ℕ) → n ≡ length pre + 2 → Sound (pre ++ (a ∷ b ∷ t)) (finish_of p t n)
+  finish_sound (Whole i) g t h n e = found i [] t n g e
+  finish_sound (Lacks q) g t h n e = tail_sound (tail_of_rest q) q g t h n e
+  finish_sound Nothing g t h n e = tt
 
 -- a byte that begins a word, where its second byte is 0
 module _ (pre : List ℕ) (a : ℕ) where
@@ -105,10 +105,10 @@ module _ (pre : List ℕ) (a : ℕ) where
   first_tail Bits32 q g =
       first_byte (fill_of q (0 * 16777216 + 0 * 65536 + 0 * 256 + 0)) (0 ∷ 0 ∷ 0 ∷ 0 ∷ []) (g 0 0 0 0 (omega arith) (omega arith) (omega arith) (omega arith))
 
-  begun-sound : (p : Plan) → Good pre a 0 p → Sound (pre ++ (a ∷ [])) (begun_of p)
-  begun-sound (Whole i) g = first_byte i [] g
-  begun-sound (Lacks q) g = first_tail (tail_of_rest q) q g
-  begun-sound Nothing g = tt
+  begun_sound : (p : Plan) → Good pre a 0 p → Sound (pre ++ (a ∷ [])) (begun_of p)
+  begun_sound (Whole i) g = first_byte i [] g
+  begun_sound (Lacks q) g = first_tail (tail_of_rest q) q g
+  begun_sound Nothing g = tt
 
 -- the first byte of an instruction's two words
 first_of : (a : ℕ) (i : Instruction) {k c : ℕ} → Valid i → code_of i ≡ k ∷ 0 ∷ c ∷ 0 ∷ [] → a ≡ k → Sound (a ∷ []) Cut
@@ -122,7 +122,7 @@ start_sound a h =
     if≡ P a 0x7E (first_of a (Takes Btst (Numbered 0) (AtAbs 0)) (omega arith, omega arith) refl) λ n7E.
     if≡ P a 0x7F (first_of a (Gives Bset (Numbered 0) (AtAbs 0)) (omega arith, omega arith) refl) λ n7F.
     if≡ (Sound (a ∷ [])) a 0x54 (λ k. (Rts, tt, (0x70, [], ap (λ x. x ∷ 0x70 ∷ []) (sym k)))) λ n54.
-    begun-sound [] a (plan_of a 0) (plan-good a 0 (omega arith) h)
+    begun_sound [] a (plan_of a 0) (plan_good a 0 (omega arith) h)
   where
     P : Bool → Type 0
     P two = Sound (a ∷ []) (pick two Cut (pick (eqb a 0x54) Cut (begun_of (plan_of a 0))))
@@ -151,10 +151,10 @@ prefix_sound a b hb =
 
 prefixed_sound : (a b : ℕ) → b < 256 → (t : List ℕ) → Bytes t → Sound (a ∷ b ∷ t) (prefixed_of a b t)
 prefixed_sound a b hb [] h = prefix_sound a b hb
-prefixed_sound a b hb (c ∷ []) h = begun-sound (a ∷ b ∷ []) c (after_of a b c 0) (after-good c 0 (omega arith) a b hb)
+prefixed_sound a b hb (c ∷ []) h = begun_sound (a ∷ b ∷ []) c (after_of a b c 0) (after_good c 0 (omega arith) a b hb)
 prefixed_sound a b hb (c ∷ d ∷ t) h =
     by (a ∷ b ∷ c ∷ d ∷ t) (word_second a b c d t)
-    (finish-sound (a ∷ b ∷ []) c d (after_of a b c d) (after-good c d h.1.0 a b hb) t h.1.1 4 refl)
+    (finish_sound (a ∷ b ∷ []) c d (after_of a b c d) (after_good c d h.1.0 a b hb) t h.1.1 4 refl)
 
 both : (s : List ℕ) (two : Bool) (r r' : Found) → Sound s r → Sound s r' → Sound s (pick two r r')
 both s true r r' h h' = h
@@ -166,4 +166,4 @@ sound (a ∷ []) h = start_sound a h.0
 sound (a ∷ b ∷ t) h =
     by (a ∷ b ∷ t) (word_first a b t)
     (both (a ∷ b ∷ t) (two_words a) (prefixed_of a b t) (finish_of (plan_of a b) t 2) (prefixed_sound a b h.1.0 t h.1.1)
-    (finish-sound [] a b (plan_of a b) (plan-good a b h.1.0 h.0) t h.1.1 2 refl))
+    (finish_sound [] a b (plan_of a b) (plan_good a b h.1.0 h.0) t h.1.1 2 refl))

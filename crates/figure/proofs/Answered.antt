@@ -24,8 +24,8 @@ use Rattle.paths.specs.declared.Flow.{Flow}
 use Rattle.paths.specs.declared.Reckoned.{Reckoned}
 use Rattle.paths.specs.Paths.{IsPlace, Forbidden, Meets, Lowest, IsFigure, Over}
 use Rattle.paths.specs.Levels.{Held, totals, bars, HeldIs}
-use Rattle.paths.proofs.Laws.{le_or, Listing, forbidden-one, largest-one, lowest-one, figure-over, row_one, meets-forbidden, meets-place, meets-in}
-use Rattle.paths.proofs.Rows.{why-is}
+use Rattle.paths.proofs.Laws.{le_or, Listing, forbidden_one, largest_one, lowest_one, figure_over, row_one, meets_forbidden, meets_place, meets_in}
+use Rattle.paths.proofs.Rows.{why_is}
 use Rattle.levels.specs.Levels.{Filled, fitting}
 use Rattle.listing.specs.Listing.{flow_at}
 use Rattle.listing.proofs.Listed.{listing}
@@ -96,56 +96,56 @@ good_fitting {k} {len} {lent} {entry} g = simp (eq-eqb (len % 2) 0 (even k len g
 
 module _ (flow : ℕ → Flow) (len : ℕ) (L : Listing flow len) where
   -- the lowest forbidden place is forbidden by what is said of it
-  pub why-lowest : {d f : ℕ} {r : Refusal} → IsPlace f → Forbidden flow d f r → why_at flow f ≡ r
+  pub why_lowest : {d f : ℕ} {r : Refusal} → IsPlace f → Forbidden flow d f r → why_at flow f ≡ r
   unfolding why_at
-  why-lowest {f = f} z b = let e : f % 16777216 ≡ f = omega (arith, z.in_range) in rw e (why-is flow len L z b)
+  why_lowest {f = f} z b = let e : f % 16777216 ≡ f = omega (arith, z.in_range) in rw e (why_is flow len L z b)
 
-  told-total : {entry n : ℕ} → IsFigure flow entry n ⊎ Over flow entry → (m : ℕ) → ((x : IsFigure flow entry n) → m ≡ n) → (Over flow entry → 1000000000 < m) → Told flow entry (figure_of entry m)
+  told_total : {entry n : ℕ} → IsFigure flow entry n ⊎ Over flow entry → (m : ℕ) → ((x : IsFigure flow entry n) → m ≡ n) → (Over flow entry → 1000000000 < m) → Told flow entry (figure_of entry m)
   unfolding figure_of
-  told-total {n = n} (inl c) m x y = rw (x c) (simp (le-ltb 1000000000 n c.held) (longest c))
-  told-total (inr v) m x y = simp (lt-ltb 1000000000 m (y v)) (too_long v)
+  told_total {n = n} (inl c) m x y = rw (x c) (simp (le-ltb 1000000000 n c.held) (longest c))
+  told_total (inr v) m x y = simp (lt-ltb 1000000000 m (y v)) (too_long v)
 
-  pub told-row : {entry n f : ℕ} → IsPlace entry → Held flow 8 entry n f → Told flow entry (verdict_of flow entry (record { figure = n; low = f }))
+  pub told_row : {entry n f : ℕ} → IsPlace entry → Held flow 8 entry n f → Told flow entry (verdict_of flow entry (record { figure = n; low = f }))
   unfolding verdict_of
-  told-row {entry} z (totals {n = x} c l) =
-      told-total {entry = entry} {n = x} (⊎_elim (λ h. inl (record { clear = c; largest = l; held = h })) (λ h. inr (record { total = x; clear = c; largest = l; above = h })) (le_or x 1000000000))
-      (min x 1000000001) (λ c. omega (arith, c.held)) (λ v. omega (arith, v.above, largest-one flow l v.largest))
-  told-row z (bars {f = f} w) =
-      let h : f < 16777215 = meets-in flow len L z w.met in
-      let b = meets-forbidden flow w.met in
-      simp (ne_eqb f 16777215 (omega arith), why-lowest (meets-place flow len L z w.met) b.2) (forbids w b.2)
+  told_row {entry} z (totals {n = x} c l) =
+      told_total {entry = entry} {n = x} (⊎_elim (λ h. inl (record { clear = c; largest = l; held = h })) (λ h. inr (record { total = x; clear = c; largest = l; above = h })) (le_or x 1000000000))
+      (min x 1000000001) (λ c. omega (arith, c.held)) (λ v. omega (arith, v.above, largest_one flow l v.largest))
+  told_row z (bars {f = f} w) =
+      let h : f < 16777215 = meets_in flow len L z w.met in
+      let b = meets_forbidden flow w.met in
+      simp (ne_eqb f 16777215 (omega arith), why_lowest (meets_place flow len L z w.met) b.2) (forbids w b.2)
 
 -- by the refusals for bad input, and else by the entry's row and the filled table
 module _ (k : Site) (rom : List ℕ) where
-  pub figured-unfit : (entry : ℕ) (t : List ℕ) (f : Refusal) → asked_of k (length rom) (length t) entry ≡ Unfit f → Figured k rom entry t (Forbids f) t
-  figured-unfit entry t f e = record { in_order = rw e (refl, refl) }
+  pub figured_unfit : (entry : ℕ) (t : List ℕ) (f : Refusal) → asked_of k (length rom) (length t) entry ≡ Unfit f → Figured k rom entry t (Forbids f) t
+  figured_unfit entry t f e = record { in_order = rw e (refl, refl) }
 
-  pub good-listing : Bytes rom → {lent entry : ℕ} → Good k (length rom) lent entry → Listing (flow_at k rom) (length rom)
-  good-listing b g = listing k rom b (even k (length rom) g.carried) (small k (length rom) g.carried)
+  pub good_listing : Bytes rom → {lent entry : ℕ} → Good k (length rom) lent entry → Listing (flow_at k rom) (length rom)
+  good_listing b g = listing k rom b (even k (length rom) g.carried) (small k (length rom) g.carried)
 
-  pub figured-fit : Bytes rom → (entry : ℕ) (t after : List ℕ) (r : Reckoned) → asked_of k (length rom) (length t) entry ≡ Fit → HeldIs (flow_at k rom) 8 entry r → Filled (flow_at k rom) (length rom) t after
+  pub figured_fit : Bytes rom → (entry : ℕ) (t after : List ℕ) (r : Reckoned) → asked_of k (length rom) (length t) entry ≡ Fit → HeldIs (flow_at k rom) 8 entry r → Filled (flow_at k rom) (length rom) t after
       → Figured k rom entry t (verdict_of (flow_at k rom) entry r) after
-  figured-fit b entry t after r e h f =
+  figured_fit b entry t after r e h f =
       let g = fit_good k (length rom) (length t) entry e in
-      record { in_order = rw e (told-row (flow_at k rom) (length rom) (good-listing b g) (good_place g) h, f) }
+      record { in_order = rw e (told_row (flow_at k rom) (length rom) (good_listing b g) (good_place g) h, f) }
 
 -- one answer, and one table
 module _ (flow : ℕ → Flow) where
-  told-one : {len entry : ℕ} {r r' : Verdict} → Listing flow len → IsPlace entry → Told flow entry r → Told flow entry r' → r ≡ r'
-  told-one L z (longest c) (longest c') = ap Longest (largest-one flow c.largest c'.largest)
-  told-one L z (longest c) (too_long v) = absurd (figure-over flow c v)
-  told-one L z (longest c) (forbids w b) = absurd (c.clear _ w.met)
-  told-one L z (too_long v) (longest c) = absurd (figure-over flow c v)
-  told-one L z (too_long v) (too_long v') = refl
-  told-one L z (too_long v) (forbids w b) = absurd (v.clear _ w.met)
-  told-one L z (forbids w b) (longest c) = absurd (c.clear _ w.met)
-  told-one L z (forbids w b) (too_long v) = absurd (v.clear _ w.met)
-  told-one {len} L z (forbids {f = f} w b) (forbids {d = d} {f = g} {r = s} w' b') =
-      let e : f ≡ g = lowest-one flow w w' in
-      ap Forbids (forbidden-one flow len L (meets-place flow len L z w.met) b (subst (λ (x : ℕ). Forbidden flow d x s) (sym e) b'))
+  told_one : {len entry : ℕ} {r r' : Verdict} → Listing flow len → IsPlace entry → Told flow entry r → Told flow entry r' → r ≡ r'
+  told_one L z (longest c) (longest c') = ap Longest (largest_one flow c.largest c'.largest)
+  told_one L z (longest c) (too_long v) = absurd (figure_over flow c v)
+  told_one L z (longest c) (forbids w b) = absurd (c.clear _ w.met)
+  told_one L z (too_long v) (longest c) = absurd (figure_over flow c v)
+  told_one L z (too_long v) (too_long v') = refl
+  told_one L z (too_long v) (forbids w b) = absurd (v.clear _ w.met)
+  told_one L z (forbids w b) (longest c) = absurd (c.clear _ w.met)
+  told_one L z (forbids w b) (too_long v) = absurd (v.clear _ w.met)
+  told_one {len} L z (forbids {f = f} w b) (forbids {d = d} {f = g} {r = s} w' b') =
+      let e : f ≡ g = lowest_one flow w w' in
+      ap Forbids (forbidden_one flow len L (meets_place flow len L z w.met) b (subst (λ (x : ℕ). Forbidden flow d x s) (sym e) b'))
 
-  filled-one : {len : ℕ} {before a b : List ℕ} → len % 2 ≡ 0 → Filled flow len before a → Filled flow len before b → a ≡ b
-  filled-one {len} {before} {a} {b} even f g =
+  filled_one : {len : ℕ} {before a b : List ℕ} → len % 2 ≡ 0 → Filled flow len before a → Filled flow len before b → a ≡ b
+  filled_one {len} {before} {a} {b} even f g =
       ext_get_or 0 a b (f.same_length ∙ sym g.same_length) (λ i h. ⊎_elim (λ l. f.rest i l ∙ sym (g.rest i l)) (λ l. below i l) (le_or len i))
     where
       both : (p : ℕ) → p % 2 ≡ 0 → p < len → (get_or a p 0 ≡ get_or b p 0) × (get_or a (p + 1) 0 ≡ get_or b (p + 1) 0)
@@ -157,22 +157,22 @@ module _ (flow : ℕ → Flow) where
           odd : 0 < i % 2 → i - 1 + 1 ≡ i
           odd z = omega arith
 
-  in-order-one : (x : Asked) (len entry : ℕ) (t : List ℕ) {r r' : Verdict} {a a' : List ℕ} → (x ≡ Fit → Listing flow len × IsPlace entry)
+  in_order_one : (x : Asked) (len entry : ℕ) (t : List ℕ) {r r' : Verdict} {a a' : List ℕ} → (x ≡ Fit → Listing flow len × IsPlace entry)
       → InOrder x flow len entry t r a → InOrder x flow len entry t r' a' → (r ≡ r') × (a ≡ a')
-  in-order-one (Unfit f) len entry t fit p q = (p.0 ∙ sym q.0, p.1 ∙ sym q.1)
-  in-order-one Fit len entry t fit p q = let x = fit refl in (told-one x.0 x.1 p.0 q.0, filled-one x.0.even_length p.1 q.1)
+  in_order_one (Unfit f) len entry t fit p q = (p.0 ∙ sym q.0, p.1 ∙ sym q.1)
+  in_order_one Fit len entry t fit p q = let x = fit refl in (told_one x.0 x.1 p.0 q.0, filled_one x.0.even_length p.1 q.1)
 
   -- refused exactly when a path meets a forbidden place, or the total is above 1,000,000,000
-  told-exactly : {entry : ℕ} {r : Verdict} → Told flow entry r → ((f : Refusal) × (r ≡ Forbids f)) ↔ (((f : ℕ) × Meets flow 8 entry f) ⊎ Over flow entry)
-  told-exactly (longest c) = ((λ x. absurd (let z : ◌≡◌ {A = ℕ} 0 1 = cc x.1 in omega arith)), (λ x. ⊎_elim (λ y. absurd (c.clear y.0 y.1)) (λ v. absurd (figure-over flow c v)) x))
-  told-exactly {entry} (too_long v) = ((λ x. inr v), (λ x. (TooLong entry, refl)))
-  told-exactly (forbids {f = f} {r = r} w b) = ((λ x. inl (f, w.met)), (λ x. (r, refl)))
+  told_exactly : {entry : ℕ} {r : Verdict} → Told flow entry r → ((f : Refusal) × (r ≡ Forbids f)) ↔ (((f : ℕ) × Meets flow 8 entry f) ⊎ Over flow entry)
+  told_exactly (longest c) = ((λ x. absurd (let z : ◌≡◌ {A = ℕ} 0 1 = cc x.1 in omega arith)), (λ x. ⊎_elim (λ y. absurd (c.clear y.0 y.1)) (λ v. absurd (figure_over flow c v)) x))
+  told_exactly {entry} (too_long v) = ((λ x. inr v), (λ x. (TooLong entry, refl)))
+  told_exactly (forbids {f = f} {r = r} w b) = ((λ x. inl (f, w.met)), (λ x. (r, refl)))
 
 pub figured_one : {k : Site} {rom : List ℕ} {entry : ℕ} {t : List ℕ} {r r' : Verdict} {a a' : List ℕ} → Bytes rom → Figured k rom entry t r a → Figured k rom entry t r' a'
     → (r ≡ r') × (a ≡ a')
 figured_one {k} {rom} {entry} {t} b p q =
-    in-order-one (flow_at k rom) (asked_of k (length rom) (length t) entry) (length rom) entry t
-    (λ e. let g = fit_good k (length rom) (length t) entry e in (good-listing k rom b g, good_place g)) p.in_order q.in_order
+    in_order_one (flow_at k rom) (asked_of k (length rom) (length t) entry) (length rom) entry t
+    (λ e. let g = fit_good k (length rom) (length t) entry e in (good_listing k rom b g, good_place g)) p.in_order q.in_order
 
 pub exactly : {k : Site} {rom : List ℕ} {entry : ℕ} {t : List ℕ} {r : Verdict} {a : List ℕ} → Figured k rom entry t r a → RefusedExactly k rom entry t r
-exactly {k} {rom} p e = told-exactly (flow_at k rom) (rw e at p.in_order).0
+exactly {k} {rom} p e = told_exactly (flow_at k rom) (rw e at p.in_order).0

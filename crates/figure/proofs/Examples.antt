@@ -24,7 +24,7 @@ use Rattle.figure.specs.declared.Asked.TheVariants.{Fit}
 use Rattle.figure.specs.declared.Verdict.TheVariants.{Longest, Forbids}
 use Rattle.figure.specs.Answer.{asked_of, Figured}
 use Rattle.figure.specs.MirrorFigure.{why_at, figure_of, verdict_of}
-use Rattle.figure.proofs.Answered.{figured-unfit, figured-fit}
+use Rattle.figure.proofs.Answered.{figured_unfit, figured_fit}
 
 -- the site of their board, which has no ports
 abbrev pub bare : Site
@@ -48,7 +48,7 @@ module _ (rom : List ℕ) (bytes : Bytes rom) (even : length rom % 2 ≡ 0) (sma
 
   figures : (before : List ℕ) (entry : ℕ) → length t ≡ length before → ((i : ℕ) → length rom ≤ i → get_or t i 0 ≡ get_or before i 0) → Plain 0 → entry % 2 ≡ 0 → entry < length rom
       → asked_of bare (length rom) (length before) entry ≡ Fit → Figured bare rom entry before (verdict_of (flow_at bare rom) entry (record { figure = get_or t entry 0; low = get_or t (entry + 1) 0 })) t
-  figures before entry e h R x y fit = figured-fit bare rom bytes entry before t _ fit (R entry (omega arith) x y).0 (fills before e h R)
+  figures before entry e h R x y fit = figured_fit bare rom bytes entry before t _ fit (R entry (omega arith) x y).0 (fills before e h R)
 
 -- two tables of n numbers are alike past them
 past : (a b : List ℕ) (n : ℕ) → length a ≤ n → length b ≤ n → (i : ℕ) → n ≤ i → get_or a i 0 ≡ get_or b i 0
@@ -85,7 +85,7 @@ example10_2 = figures code10 bytes10 refl (lit≤ tt) table10 sevens 2 refl (pas
 -- an address that is no place of that memory
 pub high_entry : Figured bare code10 16777216 sevens (Forbids (BadEntry 16777216)) sevens
 unfolding asked_of could_carry
-high_entry = figured-unfit bare code10 16777216 sevens (BadEntry 16777216) refl
+high_entry = figured_unfit bare code10 16777216 sevens (BadEntry 16777216) refl
 
 -- a memory of one instruction that calls nothing, whose row is x and y
 one_row : (a b x y : ℕ) (rest : List ℕ) (bytes : Bytes (a ∷ b ∷ [])) → ((q : ℕ) → Enters (flow_at bare (a ∷ b ∷ []) 0) q → ⊥)

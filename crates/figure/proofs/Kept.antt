@@ -22,7 +22,7 @@ use Rattle.figure.specs.declared.Asked.TheVariants.{Fit, Unfit}
 use Rattle.figure.specs.declared.Verdict.{Verdict}
 use Rattle.figure.specs.declared.Verdict.TheVariants.{Longest}
 use Rattle.figure.specs.Answer.{asked_of, Told, longest, too_long, forbids, InOrder, Figured}
-use Rattle.figure.proofs.Answered.{Good, fit_good, good-listing}
+use Rattle.figure.proofs.Answered.{Good, fit_good, good_listing}
 
 -- a figure is answered only where the input is fit
 told_of : (x : Asked) (flow : ℕ → Flow) (len entry : ℕ) (t : List ℕ) (r : Verdict) (a : List ℕ) (n : ℕ) → r ≡ Longest n → InOrder x flow len entry t r a
@@ -43,4 +43,4 @@ module _ (k : Site) (rom : List ℕ) (bytes : Bytes rom) (M : Machine) (O : OneS
       let x = told_of (asked_of k (length rom) (length t) entry) (flow_at k rom) (length rom) entry t r a n e p.in_order in
       let g = fit_good k (length rom) (length t) entry x.0 in
       let y = told_longest n e x.1 in
-      bounded M O (flow_at k rom) (length rom) (good-listing k rom bytes g).outside Kept step s n (holds g) (rw h y.clear) (rw h y.largest)
+      bounded M O (flow_at k rom) (length rom) (good_listing k rom bytes g).outside Kept step s n (holds g) (rw h y.clear) (rw h y.largest)

@@ -13,14 +13,14 @@ use Rattle.codes.specs.declared.Goes.{Goes}
 use Rattle.step.specs.Step.{After}
 use Rattle.machine.specs.Keeping.{Keeps, keeping}
 use Rattle.paths.specs.Runs.{Ending, Run}
-use Rattle.paths.proofs.Once.{OneStep, keeping-one, run_one}
+use Rattle.paths.proofs.Once.{OneStep, keeping_one, run_one}
 use Rattle.figure.specs.declared.Verdict.{Verdict}
 use Rattle.figure.specs.Answer.{Figured, RefusedExactly}
 use Rattle.step.specs.Processor.{State, Calling, processor}
 use Rattle.figure.specs.Bound.{RunsKept}
 use Rattle.figure.proofs.Answered.{good_place, exactly}
 use Rattle.figure.proofs.Kept.{kept}
-use Rattle.figure.proofs.Steps.{Kept, goes-where}
+use Rattle.figure.proofs.Steps.{Kept, goes_where}
 
 one_step : (b : Board) (rom : List ℕ) → OneStep (processor b rom)
 one_step b rom =
@@ -40,7 +40,7 @@ one_step b rom =
 
 pub runs : {k : Site} {rom : List ℕ} {entry : ℕ} {t : List ℕ} {r : Verdict} {a : List ℕ} → Bytes rom → Figured k rom entry t r a → RunsKept k rom entry r
 runs {k} {rom} bytes p n e b s on g h =
-    kept k rom bytes (processor b rom) (one_step b rom) (Kept k b on rom bytes) (λ u kept f. goes-where k b on rom bytes u kept f) p n e s (λ good. (g, rw h (good_place good))) h
+    kept k rom bytes (processor b rom) (one_step b rom) (Kept k b on rom bytes) (λ u kept f. goes_where k b on rom bytes u kept f) p n e s (λ good. (g, rw h (good_place good))) h
 
 pub promised : (k : Site) (rom : List ℕ) (entry : ℕ) (t : List ℕ) (r : Verdict) (a : List ℕ) → Bytes rom → Figured k rom entry t r a
     → Figured k rom entry t r a × (RefusedExactly k rom entry t r × RunsKept k rom entry r)
@@ -49,4 +49,4 @@ promised k rom entry t r a bytes p = (p, (exactly p, runs bytes p))
 -- a start has one run, so that the promise speaks of the run
 pub one_run : (b : Board) (rom : List ℕ) {s : Keeps (processor b rom)} {c c' m m' : ℕ} {e e' : Ending} → Run (keeping (processor b rom)) s c m e → Run (keeping (processor b rom)) s c' m' e'
     → (c ≡ c') × (m ≡ m') × (e ≡ e')
-one_run b rom x y = run_one (keeping (processor b rom)) (keeping-one (processor b rom) (one_step b rom)) x y
+one_run b rom x y = run_one (keeping (processor b rom)) (keeping_one (processor b rom) (one_step b rom)) x y

@@ -40,7 +40,7 @@ use Rattle.memory.specs.declared.Board.{Board}
 use Rattle.memory.specs.declared.Got.{Got}
 use Rattle.memory.specs.declared.Got.TheVariants.{Value, NotRead}
 use Rattle.moves.specs.Made.{states_at}
-use Rattle.moves.proofs.States.{never-more, printed}
+use Rattle.moves.proofs.States.{never_more, printed}
 use Rattle.step.specs.Follow.{even_condition, holds_of, aim_of, followOf}
 use Rattle.step.specs.Step.{After, after, answered, stays, good_pc, fetch_of, step_of}
 use Rattle.step.proofs.Laws as Laws
@@ -74,14 +74,14 @@ module _ (f : Condition) (c n t k p : ℕ) (n-stays : n % 2 ^ 24 / 2 * 2 ≡ n) 
   by_condition true e = inr (rw e t-stays)
   by_condition false e = inl (rw e n-stays)
 
-  by-digit : (x y : Bool) → eqb c 0 ≡ x → eqb c 1 ≡ y → p ≡ cond (holds_of c f) t n → Leads (cond x (Jump t k) (cond y (Next n k) (Either n t k))) (p % 2 ^ 24 / 2 * 2)
-  by-digit true y ex ey e = let z : c ≡ 0 = eqb-true c 0 ex in let h : p ≡ t = e ∙ rw (z, always f) in rw h t-stays
-  by-digit false true ex ey e = let z : c ≡ 1 = eqb-true c 1 ey in let h : p ≡ n = e ∙ rw (z, never f) in rw h n-stays
-  by-digit false false ex ey e = by_condition (holds_of c f) e
+  by_digit : (x y : Bool) → eqb c 0 ≡ x → eqb c 1 ≡ y → p ≡ cond (holds_of c f) t n → Leads (cond x (Jump t k) (cond y (Next n k) (Either n t k))) (p % 2 ^ 24 / 2 * 2)
+  by_digit true y ex ey e = let z : c ≡ 0 = eqb-true c 0 ex in let h : p ≡ t = e ∙ rw (z, always f) in rw h t-stays
+  by_digit false true ex ey e = let z : c ≡ 1 = eqb-true c 1 ey in let h : p ≡ n = e ∙ rw (z, never f) in rw h n-stays
+  by_digit false false ex ey e = by_condition (holds_of c f) e
 
   branch_leads : p ≡ cond (holds_of c f) t n → Leads (branch_flow c n t k) (p % 2 ^ 24 / 2 * 2)
   unfolding branch_flow
-  branch_leads e = by-digit _ _ refl refl e
+  branch_leads e = by_digit _ _ refl refl e
 
 branch_count : (n t k : ℕ) (x y : Bool) → k ≤ count_of (cond x (Jump t k) (cond y (Next n k) (Either n t k)))
 branch_count n t k true y = le_refl k
@@ -95,7 +95,7 @@ branch_plain n t k u false false e = e
 
 -- a step on a board takes no more than what the site's figure counts
 within : (k : Site) (b : Board) → Carrying k b → (r : Registers) (i : Instruction) → states_at b.site r i ≤ most_of k i
-within k b (inl e) r i = subst (λ (x : Site). states_at b.site r i ≤ most_of x i) e (never-more b.site r i)
+within k b (inl e) r i = subst (λ (x : Site). states_at b.site r i ≤ most_of x i) e (never_more b.site r i)
 within k b (inr (told, carried)) r i = omega (arith, printed b.site r carried i, most_printed k told i)
 
 module _ (k : Site) (b : Board) (on : Carrying k b) (rom : List ℕ) (bytes : Bytes rom) where
@@ -115,21 +115,21 @@ module _ (k : Site) (b : Board) (on : Carrying k b) (rom : List ℕ) (bytes : By
       next : ℕ
       next = next_of pc n
 
-      flow-is : flow_at k rom pc ≡ goes_flow pc (next_of pc n) (most_of k i) (goes_of i)
+      flow_is : flow_at k rom pc ≡ goes_flow pc (next_of pc n) (most_of k i) (goes_of i)
       unfolding flow_at found_flow
-      flow-is = rw (lt-leb (length rom) pc inside, d)
+      flow_is = rw (lt-leb (length rom) pc inside, d)
 
-      next-even : next_of pc n % 2 ≡ 0
+      next_even : next_of pc n % 2 ≡ 0
       unfolding decoded_at
-      next-even = omega (arith, z.even, (code_read pc (drop pc rom) i n (bytes_drop pc rom bytes) d).sized.even)
+      next_even = omega (arith, z.even, (code_read pc (drop pc rom) i n (bytes_drop pc rom bytes) d).sized.even)
 
       leads : (g : Goes) → ((f : Refusal) → goes_flow pc (next_of pc n) (most_of k i) g ≡ Stop f → ⊥) → (Calling g → ⊥) → (g ≡ Returns → ⊥) → (p : ℕ)
           → followOf r b rom s.mem g (next_of pc n) ≡ Value p → Leads (goes_flow pc (next_of pc n) (most_of k i) g) (p % 2 ^ 24 / 2 * 2)
       unfolding goes_flow followOf jump_flow aim_of
-      leads Onward free calm out p e = let h : p ≡ next_of pc n = cc in rw h (place_stays (next_of pc n) next-even (omega arith))
+      leads Onward free calm out p e = let h : p ≡ next_of pc n = cc in rw h (place_stays (next_of pc n) next_even (omega arith))
       leads (Branches c reach) free calm out p e =
           let h : p ≡ cond (holds_of c r.condition) (target_of (next_of pc n) reach) (next_of pc n) = cc in
-          branch_leads r.condition c (next_of pc n) (target_of (next_of pc n) reach) (most_of k i) p (place_stays (next_of pc n) next-even (omega arith))
+          branch_leads r.condition c (next_of pc n) (target_of (next_of pc n) reach) (most_of k i) p (place_stays (next_of pc n) next_even (omega arith))
           (place_stays (target_of (next_of pc n) reach) (target_even (next_of pc n) reach) (target_in (next_of pc n) reach)) h
       leads (Jumps (ByReg x)) free calm out p e = absurd (free (NotFollowed pc) refl)
       leads (Jumps (Direct a)) free calm out p e = let h : p ≡ a = cc in rw h
@@ -164,14 +164,14 @@ module _ (k : Site) (b : Board) (on : Carrying k b) (rom : List ℕ) (bytes : By
       plain Returns calm t e = e
 
       -- RTS stands at PC exactly if the instruction there returns
-      returns-not : (goes_of i ≡ Returns → ⊥) → (processor b rom).AtReturn s → ⊥
+      returns_not : (goes_of i ≡ Returns → ⊥) → (processor b rom).AtReturn s → ⊥
       unfolding decoded_at
-      returns-not out (j, m, e, g) = let h : i ≡ j = cc in out (rw h g)
+      returns_not out (j, m, e, g) = let h : i ≡ j = cc in out (rw h g)
 
       -- a call does exactly if it calls
-      pushes-not : (Calling (goes_of i) → ⊥) → (a : ℕ) → (processor b rom).Pushes s a → ⊥
+      pushes_not : (Calling (goes_of i) → ⊥) → (a : ℕ) → (processor b rom).Pushes s a → ⊥
       unfolding decoded_at
-      pushes-not calm a (j, m, e, c, h) = let z : j ≡ i = cc in calm (subst (λ (x : Instruction). Calling (goes_of x)) z c)
+      pushes_not calm a (j, m, e, c, h) = let z : j ≡ i = cc in calm (subst (λ (x : Instruction). Calling (goes_of x)) z c)
 
       counts : (g : Goes) → ((f : Refusal) → goes_flow pc (next_of pc n) (most_of k i) g ≡ Stop f → ⊥) → most_of k i ≤ count_of (goes_flow pc (next_of pc n) (most_of k i) g)
       unfolding goes_flow jump_flow call_flow branch_flow
@@ -190,7 +190,7 @@ module _ (k : Site) (b : Board) (on : Carrying k b) (rom : List ℕ) (bytes : By
           (free : (f : Refusal) → flow_at k rom pc ≡ Stop f → ⊥) (step : step_of b rom s.mem r ≡ after (answered (with_pc q p) (states_at b.site r i) Done) m) where
         -- the listing is the instruction's
         here : (g : Goes) → goes_of i ≡ g → flow_at k rom pc ≡ goes_flow pc (next_of pc n) (most_of k i) g
-        here g h = flow-is ∙ ap (λ (x : Goes). goes_flow pc (next_of pc n) (most_of k i) x) h
+        here g h = flow_is ∙ ap (λ (x : Goes). goes_flow pc (next_of pc n) (most_of k i) x) h
 
         -- what is kept after it
         after_kept : Kept (record { regs = with_pc q p; mem = m })
@@ -202,7 +202,7 @@ module _ (k : Site) (b : Board) (on : Carrying k b) (rom : List ℕ) (bytes : By
         goes_on : (g : Goes) → goes_of i ≡ g → (Calling g → ⊥) → (g ≡ Returns → ⊥) → followOf r b rom s.mem g (next_of pc n) ≡ Value p → Stepped (processor b rom) Kept (flow_at k rom pc) s
         goes_on g h calm out e =
             rw (here g h)
-            (onward {t = record { regs = with_pc q p; mem = m }} (returns-not (λ x. out (sym h ∙ x))) (pushes-not (λ x. calm (rw h at x))) step after_kept (plain g calm) (leads g (free_at g h) calm out p e) (takes b.site r i)
+            (onward {t = record { regs = with_pc q p; mem = m }} (returns_not (λ x. out (sym h ∙ x))) (pushes_not (λ x. calm (rw h at x))) step after_kept (plain g calm) (leads g (free_at g h) calm out p e) (takes b.site r i)
             (omega (arith, within k b on r i, counts g (free_at g h))))
 
         called : (g : Goes) → goes_of i ≡ g → Calling g → (g ≡ Returns → ⊥) → followOf r b rom s.mem g (next_of pc n) ≡ Value p → Stepped (processor b rom) Kept (flow_at k rom pc) s
@@ -210,7 +210,7 @@ module _ (k : Site) (b : Board) (on : Carrying k b) (rom : List ℕ) (bytes : By
         called g h calls out e =
             let w = enters g (free_at g h) calls p e in
             rw (here g h)
-            (entered {t = record { regs = with_pc q p; mem = m }} {k = next_of pc n} (returns-not (λ x. out (sym h ∙ x))) (i, n, d, rw h calls, refl) step after_kept w.1 w.0 (takes b.site r i)
+            (entered {t = record { regs = with_pc q p; mem = m }} {k = next_of pc n} (returns_not (λ x. out (sym h ∙ x))) (i, n, d, rw h calls, refl) step after_kept w.1 w.0 (takes b.site r i)
             (omega (arith, within k b on r i, counts g (free_at g h))))
 
         completed : (g : Goes) → goes_of i ≡ g → followOf r b rom s.mem g (next_of pc n) ≡ Value p → Stepped (processor b rom) Kept (flow_at k rom pc) s
@@ -220,7 +220,7 @@ module _ (k : Site) (b : Board) (on : Carrying k b) (rom : List ℕ) (bytes : By
         completed (Jumps t) h e = goes_on (Jumps t) h (λ x. x) (λ x. let z : ◌≡◌ {A = ℕ} 0 1 = cc in omega arith) e
         completed (CallsNear reach) h e = called (CallsNear reach) h tt (λ x. let z : ◌≡◌ {A = ℕ} 0 1 = cc in omega arith) e
         completed (Calls t) h e = called (Calls t) h tt (λ x. let z : ◌≡◌ {A = ℕ} 0 1 = cc in omega arith) e
-        completed Returns h e = back_home {t = record { regs = with_pc q p; mem = m }} (i, n, d, h) (pushes-not (λ x. rw h at x)) step after_kept (here Returns h) (takes b.site r i) (within k b on r i)
+        completed Returns h e = back_home {t = record { regs = with_pc q p; mem = m }} (i, n, d, h) (pushes_not (λ x. rw h at x)) step after_kept (here Returns h) (takes b.site r i) (within k b on r i)
 
     module _ (kept : Kept s) (free : (f : Refusal) → flow_at k rom pc ≡ Stop f → ⊥) where
       come : (a : After) → Comes r b rom s.mem a → step_of b rom s.mem r ≡ a → Stepped (processor b rom) Kept (flow_at k rom pc) s
@@ -230,7 +230,7 @@ module _ (k : Site) (b : Board) (on : Carrying k b) (rom : List ℕ) (bytes : By
       come a (Laws.by_data i n f l d k) e = by_data e k
       come a (completes i n p q m l d g e' k h) e = completed i n (ltb-true pc (length rom) l) d kept.1 p q m k kept free e (goes_of i) refl g
 
-      pub goes-where : Stepped (processor b rom) Kept (flow_at k rom pc) s
-      goes-where =
+      pub goes_where : Stepped (processor b rom) Kept (flow_at k rom pc) s
+      goes_where =
           let x : good_pc pc ≡ true = rw (eq-eqb (pc % 2) 0 kept.1.even, lt-ltb pc (2 ^ 24) kept.1.in_range) in
           come (fetch_of r b rom s.mem) (comes r b rom s.mem) (step_is r b rom s.mem kept.0 x)

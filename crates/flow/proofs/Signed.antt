@@ -45,8 +45,8 @@ module _ (k half d : ℕ) (top : 2 ^ (k - 1) ≡ half) (all : 2 ^ k ≡ 2 * half
   pub high_fits : half ≤ d → d < 2 * half → SFits w32 (to_z w32 d -ℤ pos (2 * half))
   high_fits h l = rw (plain l, below l) (record { sfits = omega arith })
 
-  pub high-signed : half ≤ d → d < 2 * half → (to_z w32 (of_z w32 (to_z w32 d -ℤ pos (2 * half))) ≡ signed_of k d) × (mag (to_z w32 (of_z w32 (to_z w32 d -ℤ pos (2 * half)))) < half)
-  high-signed h l = rw (to_z-of_z w32 _ (high_fits h l), plain l, below l) (sym (signed_high h l ∙ simp (lt-ltb d (2 * half) l)), omega arith)
+  pub high_signed : half ≤ d → d < 2 * half → (to_z w32 (of_z w32 (to_z w32 d -ℤ pos (2 * half))) ≡ signed_of k d) × (mag (to_z w32 (of_z w32 (to_z w32 d -ℤ pos (2 * half)))) < half)
+  high_signed h l = rw (to_z-of_z w32 _ (high_fits h l), plain l, below l) (sym (signed_high h l ∙ simp (lt-ltb d (2 * half) l)), omega arith)
 
 -- a displacement as its caller reads it
 pub kept : (z : ℤ) → mag z < 32768 → to_z w32 (of_z w32 z) ≡ z
@@ -89,8 +89,8 @@ module _ (next : ℕ) (z : ℤ) (n : next < 2 ^ 32) (h : mag z < 32768) where
   pub by_fits : SFits w64 (to_z w32 (of_z w32 z))
   by_fits = rw (kept z h) (record { sfits = omega arith })
 
-  pub by-is : to_z w64 (of_z w64 (to_z w32 (of_z w32 z))) ≡ z
-  by-is = to_z-of_z w64 _ by_fits ∙ kept z h
+  pub by_is : to_z w64 (of_z w64 (to_z w32 (of_z w32 z))) ≡ z
+  by_is = to_z-of_z w64 _ by_fits ∙ kept z h
 
   pub from_is : to_z w64 next ≡ pos next
   from_is = to_z_pos w64 next (omega arith)
@@ -99,7 +99,7 @@ module _ (next : ℕ) (z : ℤ) (n : next < 2 ^ 32) (h : mag z < 32768) where
   sum = to_z w64 next +ℤ to_z w64 (of_z w64 (to_z w32 (of_z w32 z)))
 
   sum_is : sum ≡ pos next +ℤ z
-  sum_is = rw (from_is, by-is)
+  sum_is = rw (from_is, by_is)
 
   pub sum_fits : SFits w64 sum
   sum_fits = rw sum_is (record { sfits = omega (arith, sum_small next z n h) })
@@ -110,11 +110,11 @@ module _ (next : ℕ) (z : ℤ) (n : next < 2 ^ 32) (h : mag z < 32768) where
   raised_is : raised ≡ pos (lifted next z)
   raised_is = rw (to_z-of_z w64 sum sum_fits, sum_is) (lifts next z h)
 
-  pub raised-fits : SFits w64 raised
-  raised-fits = rw raised_is (record { sfits = omega (arith, lifted_small next z n h) })
+  pub raised_fits : SFits w64 raised
+  raised_fits = rw raised_is (record { sfits = omega (arith, lifted_small next z n h) })
 
   read_is : to_z w64 (of_z w64 raised) ≡ pos (lifted next z)
-  read_is = to_z-of_z w64 raised raised-fits ∙ raised_is
+  read_is = to_z-of_z w64 raised raised_fits ∙ raised_is
 
   pub read_fits : T (non_neg (to_z w64 (of_z w64 raised))) × Fits w64 (nat_abs (to_z w64 (of_z w64 raised)))
   read_fits = rw read_is (tt, record { fits = omega (arith, lifted_small next z n h) })

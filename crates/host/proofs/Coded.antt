@@ -33,9 +33,9 @@ put_is fields answer (cut_short i v b) = refl
 put_is fields answer (unheld u) = refl
 
 module _ {s fields answer new : List ℕ} {n : ℕ} (h : 3 ≤ length answer) where
-  pub decode-short : length fields < 9 → noted n new ≡ tell (refusedWith (LentTooShort 9) []) answer → DecodeCall s fields answer (decoding n fields new)
+  pub decode_short : length fields < 9 → noted n new ≡ tell (refusedWith (LentTooShort 9) []) answer → DecodeCall s fields answer (decoding n fields new)
   unfolding decode_left
-  decode-short k e = subst (λ (x : Decoding). DecodeCall s fields answer x) (sym (fill e refl)) (fields_short h k)
+  decode_short k e = subst (λ (x : Decoding). DecodeCall s fields answer x) (sym (fill e refl)) (fields_short h k)
 
   pub decode_call : {after : List ℕ} {d : Decoded} → 9 ≤ length fields → Decodes 0 s d → decoding n after new ≡ put_of fields answer d
       → DecodeCall s fields answer (decoding n after new)
@@ -56,9 +56,9 @@ module _ (fields : List ℕ) where
   spelled h = spelled_by (ltb (length fields) 9) refl h
 
   -- fields that spell a valid instruction name it
-  pub spells-names : {i : Instruction} → Spells fields i → named_in fields ≡ Names i
+  pub spells_names : {i : Instruction} → Spells fields i → named_in fields ≡ Names i
   unfolding named_in
-  spells-names {i} s =
+  spells_names {i} s =
       rw (le-ltb (length fields) 9 s.whole)
       (named_valid (row_in fields) i s.valid (seven_one (row_in fields) (row_of i) (sym (first_seven fields (omega (arith, s.whole))) ∙ s.same)))
 
@@ -88,13 +88,13 @@ module _ (fields out answer new now : List ℕ) (n : ℕ) (h : 4 ≤ length answ
       let s = spelled fields m in
       put_beside new (NotWritten (LentTooShort _)) refl q (encoded h (record { valid = v; whole = s.0; same = s.1 }) (too_short v e l k))
   by_code {i} m (not_instruction wrong k) q =
-      absent (λ j s. let d = spells-names fields s in let same : j ≡ i = cc in wrong (subst Valid same s.valid)) k q
+      absent (λ j s. let d = spells_names fields s in let same : j ≡ i = cc in wrong (subst Valid same s.valid)) k q
 
   by_name : (m : Named) {e : Encoded} → named_in fields ≡ m → EncodesNamed out new e m → noted n now ≡ tell_of e answer → EncodeCall fields out answer (encoding n new now)
   unfolding tell_of encode_told
   by_name (Names i) m (named c) q = by_code m c (q ∙ tell_is answer c)
   by_name NamesNone m (unnamed e k) q =
-      absent (λ i s. let d = spells-names fields s in let z : ◌≡◌ {A = ℕ} 0 1 = cc in omega arith) k (q ∙ rw e refl)
+      absent (λ i s. let d = spells_names fields s in let z : ◌≡◌ {A = ℕ} 0 1 = cc in omega arith) k (q ∙ rw e refl)
 
 pub encode_call : {fields out answer new now : List ℕ} {n : ℕ} {e : Encoded} {m : Named} → 4 ≤ length answer → m ≡ named_in fields → EncodesNamed out new e m
     → noted n now ≡ tell_of e answer → EncodeCall fields out answer (encoding n new now)

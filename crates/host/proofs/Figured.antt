@@ -42,33 +42,33 @@ numbered ReplayEnded = omega arith
 numbered (TooLong p) = omega arith
 
 module _ (answer : List ℕ) {new : List ℕ} {n : ℕ} where
-  returned-figure : (k : ℕ) → noted n new ≡ figure_told (Longest k) answer → n ≡ 0
+  returned_figure : (k : ℕ) → noted n new ≡ figure_told (Longest k) answer → n ≡ 0
   unfolding figure_told tell
-  returned-figure k e = ap (λ (m : Noted). m.returned) e
+  returned_figure k e = ap (λ (m : Noted). m.returned) e
 
-  answered-figure : (k : ℕ) → noted n new ≡ figure_told (Longest k) answer → get_or new 3 0 ≡ k
+  answered_figure : (k : ℕ) → noted n new ≡ figure_told (Longest k) answer → get_or new 3 0 ≡ k
   unfolding figure_told tell overwrite
-  answered-figure k e = ap (λ (m : Noted). get_or m.answer 3 0) e
+  answered_figure k e = ap (λ (m : Noted). get_or m.answer 3 0) e
 
-  returned-refusal : (f : Refusal) → noted n new ≡ figure_told (Forbids f) answer → n ≡ 0 → ⊥
+  returned_refusal : (f : Refusal) → noted n new ≡ figure_told (Forbids f) answer → n ≡ 0 → ⊥
   unfolding figure_told refuse tell
-  returned-refusal f e z = let x : n ≡ number_of f = ap (λ (m : Noted). m.returned) e in omega (arith, numbered f)
+  returned_refusal f e z = let x : n ≡ number_of f = ap (λ (m : Noted). m.returned) e in omega (arith, numbered f)
 
   module _ (board rom : List ℕ) (entry : ℕ) where
     exactly : (table : List ℕ) (v : Verdict) → noted n new ≡ figure_told v answer → RefusedExactly (site_of board) rom entry table v
         → FigureExactly board rom entry table answer n
     exactly table (Longest k) e x h fit =
-        ((λ some. absurd (some (returned-figure k e))), (λ met. absurd (let z : ◌≡◌ {A = ℕ} 0 1 = cc ((x fit).1 met).1 in omega arith)))
-    exactly table (Forbids f) e x h fit = ((λ some. (x fit).0 (f, refl)), (λ met. returned-refusal f e))
+        ((λ some. absurd (some (returned_figure k e))), (λ met. absurd (let z : ◌≡◌ {A = ℕ} 0 1 = cc ((x fit).1 met).1 in omega arith)))
+    exactly table (Forbids f) e x h fit = ((λ some. (x fit).0 (f, refl)), (λ met. returned_refusal f e))
 
     kept : (v : Verdict) → noted n new ≡ figure_told v answer → RunsKept (site_of board) rom entry v → FigureKept board rom entry n new
-    kept (Longest k) e runs zero = rw (answered-figure k e) runs
-    kept (Forbids f) e runs zero = absurd (returned-refusal f e zero)
+    kept (Longest k) e runs zero = rw (answered_figure k e) runs
+    kept (Forbids f) e runs zero = absurd (returned_refusal f e zero)
 
     -- the site that was read from the board
     module _ {k : Site} (s : k ≡ site_of board) (v : Verdict) (e : noted n new ≡ figure_told v answer) where
-      pub figure-exactly : (table : List ℕ) → RefusedExactly k rom entry table v → FigureExactly board rom entry table answer n
-      figure-exactly table x = exactly table v e (subst (λ (j : Site). RefusedExactly j rom entry table v) s x)
+      pub figure_exactly : (table : List ℕ) → RefusedExactly k rom entry table v → FigureExactly board rom entry table answer n
+      figure_exactly table x = exactly table v e (subst (λ (j : Site). RefusedExactly j rom entry table v) s x)
 
-      pub figure-kept : RunsKept k rom entry v → FigureKept board rom entry n new
-      figure-kept runs = kept v e (subst (λ (j : Site). RunsKept j rom entry v) s runs)
+      pub figure_kept : RunsKept k rom entry v → FigureKept board rom entry n new
+      figure_kept runs = kept v e (subst (λ (j : Site). RunsKept j rom entry v) s runs)

@@ -32,14 +32,14 @@ module _ {l : Listed} (before : List ℕ) {after : List ℕ} where
   pub one_told : {no x : Access} → l ≡ Solo x → no ≡ no_entry → after ≡ sets before 4 (thirteen 1 x no no no) → after ≡ sets before 4 (touched (list_in l))
   one_told {no} {x} h e p = p ∙ rw (h, e)
 
-  pub two-told : {no x y : Access} → l ≡ Duo x y → no ≡ no_entry → after ≡ sets before 4 (thirteen 2 x y no no) → after ≡ sets before 4 (touched (list_in l))
-  two-told {no} {x} {y} h e p = p ∙ rw (h, e)
+  pub two_told : {no x y : Access} → l ≡ Duo x y → no ≡ no_entry → after ≡ sets before 4 (thirteen 2 x y no no) → after ≡ sets before 4 (touched (list_in l))
+  two_told {no} {x} {y} h e p = p ∙ rw (h, e)
 
-  pub three-told : {no x y z : Access} → l ≡ Trio x y z → no ≡ no_entry → after ≡ sets before 4 (thirteen 3 x y z no) → after ≡ sets before 4 (touched (list_in l))
-  three-told {no} {x} {y} {z} h e p = p ∙ rw (h, e)
+  pub three_told : {no x y z : Access} → l ≡ Trio x y z → no ≡ no_entry → after ≡ sets before 4 (thirteen 3 x y z no) → after ≡ sets before 4 (touched (list_in l))
+  three_told {no} {x} {y} {z} h e p = p ∙ rw (h, e)
 
-  pub four-told : {x y z t : Access} → l ≡ Quartet x y z t → after ≡ sets before 4 (thirteen 4 x y z t) → after ≡ sets before 4 (touched (list_in l))
-  four-told {x} {y} {z} {t} h p = p ∙ rw h
+  pub four_told : {x y z t : Access} → l ≡ Quartet x y z t → after ≡ sets before 4 (thirteen 4 x y z t) → after ≡ sets before 4 (touched (list_in l))
+  four_told {x} {y} {z} {t} h p = p ∙ rw h
 
 entries_length : (n : ℕ) (xs : List Access) → length (entries n xs) ≡ n * 3
 entries_length zero xs = refl

@@ -15,7 +15,7 @@ use Rattle.host.specs.Cuts.{begin_call, take_call, end_call}
 use Rattle.host.specs.Routines.{routine_call}
 use Rattle.host.specs.Figures as figures
 use Rattle.host.specs.Figures.{FigureCall, figured, way_call}
-use Rattle.host.proofs.Coded.{spells-names}
+use Rattle.host.proofs.Coded.{spells_names}
 
 -- a promise of an answer leaves one
 abbrev pub One : {A : Type 0} → (A → Type 0) → Type 0
@@ -37,7 +37,7 @@ decode_one bytes fields answer x y (decoded h l d) (fields_short k m) = absurd (
 decode_one bytes fields answer x y (decoded h l d) (decoded k m e) = ap (decode_left fields answer) (decodes_one d e)
 
 spells_one : {fields : List ℕ} {i j : Instruction} → Spells fields i → Spells fields j → i ≡ j
-spells_one {fields} s t = cc (spells-names fields s, spells-names fields t)
+spells_one {fields} s t = cc (spells_names fields s, spells_names fields t)
 
 pub encode_one : (fields out answer : List ℕ) → One (EncodeCall fields out answer)
 encode_one fields out answer x y (answer_short h) (answer_short k) = refl

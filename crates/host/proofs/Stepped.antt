@@ -12,7 +12,7 @@ use Rattle.refusal.specs.declared.Refusal.{Refusal}
 use Rattle.refusal.specs.declared.Outcome.{Outcome}
 use Rattle.refusal.specs.declared.Outcome.TheVariants.{Done, Refused}
 use Rattle.step.specs.Step.{After, after, step_of}
-use Rattle.step.proofs.Laws.{step-refused}
+use Rattle.step.proofs.Laws.{step_refused}
 use Rattle.memory.specs.declared.told.Access.{Access}
 use Rattle.timing.specs.Made.{sum_of, base_of}
 use Rattle.watch.specs.Watch.{list_of, list_in, Summed, Spares}
@@ -41,7 +41,7 @@ pub stepped_is : (board rom ram regs answer : List ℕ)
 unfolding step_lent
 stepped_is board rom ram regs answer =
     by_outcome (step_of (board_of board) rom ram (registers_of regs)) (list_of (board_of board) rom ram (registers_of regs)) ram regs answer (step_of (board_of board) rom ram (registers_of regs)).answer.outcome
-    (λ f e. ap (λ (a : After). a.mem) (step-refused (registers_of regs) (board_of board) rom ram f e))
+    (λ f e. ap (λ (a : After). a.mem) (step_refused (registers_of regs) (board_of board) rom ram f e))
 
 -- ---- the accesses, read back from the answer
 
@@ -68,33 +68,33 @@ module _ (w : Watched) (regs answer : List ℕ) {n : ℕ} {regs' answer' : List 
   unfolding step_told
   done_told d = e ∙ rw d
 
-  states-told : w.answer.outcome ≡ Done → get_or answer' 3 0 ≡ w.answer.states
+  states_told : w.answer.outcome ≡ Done → get_or answer' 3 0 ≡ w.answer.states
   unfolding step_answer tell overwrite
-  states-told d = ap (λ (k : Kept). get_or k.answer 3 0) (done_told d)
+  states_told d = ap (λ (k : Kept). get_or k.answer 3 0) (done_told d)
 
-  list-told : w.answer.outcome ≡ Done → touched_in answer' ≡ list_in w.list
+  list_told : w.answer.outcome ≡ Done → touched_in answer' ≡ list_in w.list
   unfolding step_answer tell
-  list-told d = ap (λ (k : Kept). touched_in k.answer) (done_told d) ∙ list_back w.answer.states answer w.list
+  list_told d = ap (λ (k : Kept). touched_in k.answer) (done_told d) ∙ list_back w.answer.states answer w.list
 
-  number-told : (f : Refusal) → w.answer.outcome ≡ Refused f → n ≡ number_of f
+  number_told : (f : Refusal) → w.answer.outcome ≡ Refused f → n ≡ number_of f
   unfolding step_told step_answer tell
-  number-told f d =
+  number_told f d =
       let h : kept n regs' answer' ≡ keeping regs (tell (step_answer (Refused f) 0 []) answer) = e ∙ rw d in
       ap (λ (k : Kept). k.returned) h
 
-  pub step-summed : (board rom : List ℕ) → Summed (board_of board) rom (registers_of regs) w → StepSummed board rom regs n answer'
-  step-summed board rom s i m z d = by w.answer.outcome refl
+  pub step_summed : (board rom : List ℕ) → Summed (board_of board) rom (registers_of regs) w → StepSummed board rom regs n answer'
+  step_summed board rom s i m z d = by w.answer.outcome refl
     where
       by : (o : Outcome) → w.answer.outcome ≡ o → get_or answer' 3 0 ≡ base_of i + sum_of (board_of board).site (touched_in answer')
-      by Done o = rw (states-told o, list-told o) (s i m d o)
-      by (Refused f) o = absurd (omega (arith, number-told f o, numbered f, z))
+      by Done o = rw (states_told o, list_told o) (s i m d o)
+      by (Refused f) o = absurd (omega (arith, number_told f o, numbered f, z))
 
-  pub step-spares : (board rom ram ram' : List ℕ) → after w.answer ram' ≡ step_of (board_of board) rom ram (registers_of regs)
+  pub step_spares : (board rom ram ram' : List ℕ) → after w.answer ram' ≡ step_of (board_of board) rom ram (registers_of regs)
       → Spares (board_of board) ram ram' (list_in w.list) → StepSpares board ram ram' answer'
-  step-spares board rom ram ram' h s k u = by w.answer.outcome refl
+  step_spares board rom ram ram' h s k u = by w.answer.outcome refl
     where
       by : (o : Outcome) → w.answer.outcome ≡ o → get_or ram' k 0 ≡ get_or ram k 0
-      by Done o = s k (rw (list-told o) at u)
+      by Done o = s k (rw (list_told o) at u)
       by (Refused f) o =
-          let x = step-refused (registers_of regs) (board_of board) rom ram f (ap (λ (a : After). a.answer.outcome) (sym h) ∙ o) in
+          let x = step_refused (registers_of regs) (board_of board) rom ram f (ap (λ (a : After). a.answer.outcome) (sym h) ∙ o) in
           ap (λ (a : After). get_or a.mem k 0) (h ∙ x)

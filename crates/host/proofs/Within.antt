@@ -24,7 +24,7 @@ use Rattle.routine.specs.Routine.{routine_of}
 use Rattle.routine.specs.Repeated.{Before, RunsTo, stopped, spent, halted, ninth_met, elsewhere_met, returned}
 use Rattle.routine.specs.declared.Ending.{Ending}
 use Rattle.routine.specs.declared.Ending.TheVariants.{AtStop, Spent, Halted, Returned, Ninth, Elsewhere}
-use Rattle.routine.proofs.Repeats.{kept-repeated}
+use Rattle.routine.proofs.Repeats.{kept_repeated}
 
 -- the endings of such a run
 abbrev pub Allowed : Ending → Type 0
@@ -42,20 +42,20 @@ module _ (M : Machine) (stop : ℕ) where
 
 module _ (b : Board) (rom : List ℕ) {s : Keeps (processor b rom)} {n : ℕ} (B : Bounded (keeping (processor b rom)) s n) where
   -- a run that ends is the one that `Bounded` speaks of
-  the-run : {c m : ℕ} {e : runs.Ending} → Run (keeping (processor b rom)) s c m e → (m ≤ n) × Fair e
-  the-run r = let (x, y, z) = one_run b rom r B.run in (rw y B.in_states, rw z B.fair)
+  the_run : {c m : ℕ} {e : runs.Ending} → Run (keeping (processor b rom)) s c m e → (m ≤ n) × Fair e
+  the_run r = let (x, y, z) = one_run b rom r B.run in (rw y B.in_states, rw z B.fair)
 
   module _ (stop budget : ℕ) where
     within : {c m : ℕ} {t : Keeps (processor b rom)} {e : Ending} → RunsTo (keeping (processor b rom)) stop budget s c m t e → (m ≤ n) × Allowed e
     within (stopped l at) = (B.within _ _ _ (off (keeping (processor b rom)) stop l), tt)
     within (spent l a e) = (B.within _ _ _ (off (keeping (processor b rom)) stop l), tt)
-    within (halted l a h r) = the-run (stops (off (keeping (processor b rom)) stop l) r)
-    within (ninth_met l a h r) = the-run (leaves (off (keeping (processor b rom)) stop l) r)
-    within (elsewhere_met l a h r) = the-run (leaves (off (keeping (processor b rom)) stop l) r)
-    within (returned l a h r d) = the-run (returns (off (keeping (processor b rom)) stop l) r d)
+    within (halted l a h r) = the_run (stops (off (keeping (processor b rom)) stop l) r)
+    within (ninth_met l a h r) = the_run (leaves (off (keeping (processor b rom)) stop l) r)
+    within (elsewhere_met l a h r) = the_run (leaves (off (keeping (processor b rom)) stop l) r)
+    within (returned l a h r d) = the_run (returns (off (keeping (processor b rom)) stop l) r d)
 
 pub routine_within : (k : Site) (rom : List ℕ) (n : ℕ) (b : Board) (ram : List ℕ) (r : Registers) (stop budget : ℕ) → RunsKept k rom r.pc (Longest n) → Carrying k b
     → good_board b (length rom) (length ram) ≡ true → good_pc r.pc ≡ true → budget ≤ 1000000
     → ((routine_of b rom ram r stop budget).answer.states ≤ n) × Allowed (routine_of b rom ram r stop budget).answer.why
 routine_within k rom n b ram r stop budget runs on good at small =
-    within b rom (runs n refl b (state r ram) on good refl) stop budget (kept-repeated b rom stop ram r budget (rw (good, at)) small).led
+    within b rom (runs n refl b (state r ram) on good refl) stop budget (kept_repeated b rom stop ram r budget (rw (good, at)) small).led

@@ -49,9 +49,9 @@ module _ (s : List ℕ) (n j a b : ℕ) where
     pub goes_on : not f ≡ false → rest j a b ≡ rest (j + 1) (a % 72057594037927936 * 256) (b % 72057594037927936 * 256 + 255)
     goes_on e = rw (same, not_false f e)
 
-  pub all-gone : ltb j n && ltb j (length s) ≡ false → rest j a b ≡ true
+  pub all_gone : ltb j n && ltb j (length s) ≡ false → rest j a b ≡ true
   unfolding patterns_in
-  all-gone e = by (ltb j n) (ltb j (length s)) refl refl e
+  all_gone e = by (ltb j n) (ltb j (length s)) refl refl e
     where
       by : (p q : Bool) → ltb j n ≡ p → ltb j (length s) ≡ q → p && q ≡ false → rest j a b ≡ true
       by false q f g e = let z : n - j ≡ zero = omega (arith, ltb-false j n f) in rw z

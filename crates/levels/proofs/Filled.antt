@@ -12,8 +12,8 @@ use Rattle.paths.specs.declared.Flow.{Flow}
 use Rattle.paths.specs.declared.Reckoned.{Reckoned}
 use Rattle.paths.specs.MirrorRows.{level_of}
 use Rattle.paths.specs.Levels.{HeldIs}
-use Rattle.paths.proofs.Laws.{Listing, row-cast}
-use Rattle.paths.proofs.Rows.{level-at, shown-row}
+use Rattle.paths.proofs.Laws.{Listing, row_cast}
+use Rattle.paths.proofs.Rows.{level_at, shown_row}
 use Rattle.levels.specs.Levels.{Filled, fitting, Lent, Reached, Unpacked}
 
 pub record Fitting (len given entry : ℕ) : Type 0 where
@@ -43,13 +43,13 @@ on {x = false} e t = absurd (let z : ◌≡◌ {A = ℕ} 0 1 = cc in omega arith
 module _ (flow : ℕ → Flow) (len : ℕ) (L : Listing flow len) {before mid : List ℕ} {i : ℕ} (z : i ≡ 0) (r : Reached flow len 8 i before mid) where
   -- the row of an even address, before the table is unpacked
   pub entry_row : (entry : ℕ) → entry % 2 ≡ 0 → HeldIs flow 8 entry (level_of len mid 8 entry)
-  entry_row entry e = level-at flow len L mid 8 i entry r.rows (omega arith) e
+  entry_row entry e = level_at flow len L mid 8 i entry r.rows (omega arith) e
 
   -- and the table after
   pub filled : {after : List ℕ} → Unpacked len mid after → Filled flow len before after
   filled u =
       record {
         same_length = u.same_length ∙ r.costed.same_length;
-        rows = λ p h e l. let x = u.rows p h e l in row-cast flow x.0 x.1 (shown-row flow len L (entry_row p e));
+        rows = λ p h e l. let x = u.rows p h e l in row_cast flow x.0 x.1 (shown_row flow len L (entry_row p e));
         rest = λ k l. u.rest k l ∙ r.costed.rest k l;
       }

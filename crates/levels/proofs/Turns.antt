@@ -15,8 +15,8 @@ use Rattle.paths.specs.declared.Notes.{Notes}
 use Rattle.paths.specs.MirrorRows.{unpacked_of}
 use Rattle.paths.specs.MirrorPacked.{packed_at, packedFlow, notes_of, noted_of, plain_of}
 use Rattle.paths.proofs.Laws.{le_or, Listing}
-use Rattle.paths.proofs.Packed.{lower, noted-flow, packed-small, packed-held}
-use Rattle.paths.proofs.Table.{kept-below, kept-rows, kept-rest, stored, stored_at, stored-above}
+use Rattle.paths.proofs.Packed.{lower, noted_flow, packed_small, packed_held}
+use Rattle.paths.proofs.Table.{kept_below, kept_rows, kept_rest, stored, stored_at, stored_above}
 use Rattle.levels.specs.Levels.{NotedFrom, Lent, Ready, Costed, Reached}
 
 -- what stands in the upper half of a number stays
@@ -33,8 +33,8 @@ module _ (flow : ℕ → Flow) (len : ℕ) where
   none_left h c = record { same_length = c.same_length; noted = c.noted; below = λ e i. absurd (omega arith); rest = c.rest }
 
   -- the whole level below
-  pub level-below : {d i : ℕ} {before after : List ℕ} → i ≡ 0 → 0 < d → Reached flow len (d - 1) i before after → Costed flow len d before after
-  level-below {d} {i} {before} {after} z h r = record { same_length = r.costed.same_length; noted = r.costed.noted; below = below; rest = r.costed.rest }
+  pub level_below : {d i : ℕ} {before after : List ℕ} → i ≡ 0 → 0 < d → Reached flow len (d - 1) i before after → Costed flow len d before after
+  level_below {d} {i} {before} {after} z h r = record { same_length = r.costed.same_length; noted = r.costed.noted; below = below; rest = r.costed.rest }
     where
       below : (e : ℕ) → d ≡ suc e → LevelFrom flow len after e 0
       below e x = let y : d - 1 ≡ e = omega arith in subst (λ (v : ℕ). LevelFrom flow len after v 0) y (λ p k. r.rows p (omega arith))
@@ -46,8 +46,8 @@ module _ (flow : ℕ → Flow) (len : ℕ) where
   pub at_first : {d i j : ℕ} (t : List ℕ) → i ≤ j → Ready flow len t d i → Reached flow len d j t t
   at_first t h x = record { costed = record { same_length = refl; noted = x.noted; below = x.below; rest = λ i l. refl }; rows = λ p k. x.rows p (omega arith) }
 
-  pub from-higher : {d i j : ℕ} {before after : List ℕ} → i ≤ j → Reached flow len d i before after → Reached flow len d j before after
-  from-higher h r = record { costed = r.costed; rows = λ p k. r.rows p (omega arith) }
+  pub from_higher : {d i j : ℕ} {before after : List ℕ} → i ≤ j → Reached flow len d i before after → Reached flow len d j before after
+  from_higher h r = record { costed = r.costed; rows = λ p k. r.rows p (omega arith) }
 
   -- what the rows below ask for
   pub ready : {d i j : ℕ} {before after : List ℕ} → i ≤ j → Reached flow len d i before after → Ready flow len after d j
@@ -79,13 +79,13 @@ module _ (flow : ℕ → Flow) (len : ℕ) where
     rows_above q k = r.rows q (omega arith)
 
     pub row_small : x < 4294967296
-    row_small = packed-small flow len L p place mid d (get_or mid p 0 / 4294967296) (get_or mid (p + 1) 0 / 4294967296) x noted_here is
+    row_small = packed_small flow len L p place mid d (get_or mid p 0 / 4294967296) (get_or mid (p + 1) 0 / 4294967296) x noted_here is
 
     abbrev number : ℕ
     number = get_or mid (p + d % 2) 0 / 4294967296 * 4294967296 + x
 
     held : HeldIs flow d p (unpacked_of number)
-    held = rw (lower number x (omega arith)) (packed-held flow len L p place mid d (get_or mid p 0 / 4294967296) (get_or mid (p + 1) 0 / 4294967296) x noted_here is rows_above r.costed.below)
+    held = rw (lower number x (omega arith)) (packed_held flow len L p place mid d (get_or mid p 0 / 4294967296) (get_or mid (p + 1) 0 / 4294967296) x noted_here is rows_above r.costed.below)
 
     still_noted : NotedFrom flow len (set mid (p + d % 2) number) 0
     still_noted q k e l =
@@ -98,19 +98,19 @@ module _ (flow : ℕ → Flow) (len : ℕ) where
           costed = record {
             same_length = simp length-set r.costed.same_length;
             noted = still_noted;
-            below = λ e y. kept-below flow len mid d p number even e y (r.costed.below e y);
-            rest = λ k l. kept-rest flow len mid d p number even inside k l ∙ r.costed.rest k l;
+            below = λ e y. kept_below flow len mid d p number even e y (r.costed.below e y);
+            rest = λ k l. kept_rest flow len mid d p number even inside k l ∙ r.costed.rest k l;
           };
-          rows = λ q k. kept-rows flow len mid d p number even (omega (arith, r.costed.same_length)) held rows_above q (omega arith);
+          rows = λ q k. kept_rows flow len mid d p number even (omega (arith, r.costed.same_length)) held rows_above q (omega arith);
         }
 
   -- what is noted of p, below the places of which it is noted already
   module _ (L : Listing flow len) (t : List ℕ) (p : ℕ) (even : p % 2 ≡ 0) (inside : p + 2 ≤ len) (room : len ≤ length t) where
-    pub one-note : (w : Notes) → w ≡ notes_of (flow p) → NotedFrom flow len t (p + 2) → NotedFrom flow len (stored t p w.to w.on) p
-    one-note w is R q k e l =
+    pub one_note : (w : Notes) → w ≡ notes_of (flow p) → NotedFrom flow len t (p + 2) → NotedFrom flow len (stored t p w.to w.on) p
+    one_note w is R q k e l =
         ⊎_elim
         (λ (h : q ≤ p). let z : q ≡ p = omega arith in
         let at = stored_at t p w.to w.on (omega arith) in
-        rw (z, at.0, at.1, is) (noted-flow flow len L p (record { even = even; in_range = omega (arith, L.small) })))
-        (λ (h : p < q). rw (stored-above t p w.to w.on q (omega arith), stored-above t p w.to w.on (q + 1) (omega arith)) (R q (omega arith) e l))
+        rw (z, at.0, at.1, is) (noted_flow flow len L p (record { even = even; in_range = omega (arith, L.small) })))
+        (λ (h : p < q). rw (stored_above t p w.to w.on q (omega arith), stored_above t p w.to w.on (q + 1) (omega arith)) (R q (omega arith) e l))
         (le_or q p)

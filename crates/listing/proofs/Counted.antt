@@ -35,9 +35,9 @@ module _ (k : Site) where
   unfolding most_of base_of most_at
   call_near d = omega arith
 
-  pub call-far : (d : ℕ) → most_of k (Bsr (Far d)) ≡ 6 + dearest k Long
+  pub call_far : (d : ℕ) → most_of k (Bsr (Far d)) ≡ 6 + dearest k Long
   unfolding most_of base_of most_at
-  call-far d = omega arith
+  call_far d = omega arith
 
   pub call_at : (a : ℕ) → most_of k (Jsr (Direct a)) ≡ 6 + dearest k Long
   unfolding most_of base_of most_at
@@ -53,17 +53,17 @@ module _ (k : Site) where
         → r ≡ found_flow k p (Code i n)
     goes_none a b t f = goes_on a b (f ∙ sym (none k _ t))
 
-    pub goes-move : {dir : Dir} {w : Width} {place : Place} {d : ℕ} → i ≡ Move dir w place d → s ≡ move_base w place + most_at k w place → next ≡ next_of p n
+    pub goes_move : {dir : Dir} {w : Width} {place : Place} {d : ℕ} → i ≡ Move dir w place d → s ≡ move_base w place + most_at k w place → next ≡ next_of p n
         → r ≡ Next next s → r ≡ found_flow k p (Code i n)
-    goes-move a f = goes_on a refl (f ∙ sym (move k _ _ _ _))
+    goes_move a f = goes_on a refl (f ∙ sym (move k _ _ _ _))
 
-    pub goes-read : {take : Take} {index : Index} {spot : Spot} → i ≡ Takes take index spot → s ≡ 2 * spot_fetches spot + spot_most k spot → next ≡ next_of p n
+    pub goes_read : {take : Take} {index : Index} {spot : Spot} → i ≡ Takes take index spot → s ≡ 2 * spot_fetches spot + spot_most k spot → next ≡ next_of p n
         → r ≡ Next next s → r ≡ found_flow k p (Code i n)
-    goes-read a f = goes_on a refl (f ∙ sym (read k _ _ _))
+    goes_read a f = goes_on a refl (f ∙ sym (read k _ _ _))
 
-    pub goes-written : {give : Give} {index : Index} {spot : Spot} → i ≡ Gives give index spot → s ≡ 2 * spot_fetches spot + spot_most k spot + spot_most k spot
+    pub goes_written : {give : Give} {index : Index} {spot : Spot} → i ≡ Gives give index spot → s ≡ 2 * spot_fetches spot + spot_most k spot + spot_most k spot
         → next ≡ next_of p n → r ≡ Next next s → r ≡ found_flow k p (Code i n)
-    goes-written a f = goes_on a refl (f ∙ sym (written k _ _ _))
+    goes_written a f = goes_on a refl (f ∙ sym (written k _ _ _))
 
   -- a jump that is followed takes 6
   jump : (p : ℕ) (to : Target) → jump_flow p to 6 ≡ jump_flow p to (most_of k (Jmp to))
@@ -72,16 +72,16 @@ module _ (k : Site) where
   jump p (Direct a) = refl
   jump p (Vector a) = refl
 
-  pub goes-jump : (p n : ℕ) {i : Instruction} {to : Target} {r : Flow} → i ≡ Jmp to → r ≡ jump_flow p to 6 → r ≡ found_flow k p (Code i n)
+  pub goes_jump : (p n : ℕ) {i : Instruction} {to : Target} {r : Flow} → i ≡ Jmp to → r ≡ jump_flow p to 6 → r ≡ found_flow k p (Code i n)
   unfolding found_flow goes_flow
-  goes-jump p n {to = to} a g = g ∙ jump p to ∙ rw a
+  goes_jump p n {to = to} a g = g ∙ jump p to ∙ rw a
 
   pub goes_near : (p n : ℕ) {next : ℕ} {i : Instruction} {reach : Reach} {r : Flow} → i ≡ Bsr reach → next ≡ next_of p n → r ≡ Call next (target_of next reach) (most_of k (Bsr reach))
       → r ≡ found_flow k p (Code i n)
   unfolding found_flow goes_flow
   goes_near p n a e g = g ∙ rw (a, e)
 
-  pub goes-call : (p n : ℕ) {next : ℕ} {i : Instruction} {to : Target} {r : Flow} → i ≡ Jsr to → next ≡ next_of p n → r ≡ call_flow p next to (most_of k (Jsr to))
+  pub goes_call : (p n : ℕ) {next : ℕ} {i : Instruction} {to : Target} {r : Flow} → i ≡ Jsr to → next ≡ next_of p n → r ≡ call_flow p next to (most_of k (Jsr to))
       → r ≡ found_flow k p (Code i n)
   unfolding found_flow goes_flow
-  goes-call p n a e g = g ∙ rw (a, e)
+  goes_call p n a e g = g ∙ rw (a, e)

@@ -54,26 +54,26 @@ plus_zero : (n : ℕ) → n + 0 ≡ n
 plus_zero n = omega arith
 
 -- the place p has a word, which is the whole code i
-module _ (k : Site) (rom : List ℕ) (p : ℕ) (in-rom : p < length rom) (Has-word : 2 ≤ length rom - p) where
-  word-flow : (i : Instruction) → plan_of (get_or rom p 0) (get_or rom (p + 1) 0) ≡ Whole i
+module _ (k : Site) (rom : List ℕ) (p : ℕ) (in_rom : p < length rom) (Has-word : 2 ≤ length rom - p) where
+  word_flow : (i : Instruction) → plan_of (get_or rom p 0) (get_or rom (p + 1) 0) ≡ Whole i
       → goes_flow p (next_of p 2) (most_of k i) (goes_of i) ≡ flow_at k rom p
   unfolding flow_at found_flow decoded_at
-  word-flow i e =
+  word_flow i e =
       let first = get_or-drop p rom 0 0 ∙ ap (λ (n : ℕ). get_or rom n 0) (plus_zero p) in
       let second = get_or-drop p rom 1 0 in
       let found = whole_word (drop p rom) i (subst (λ (n : ℕ). 2 ≤ n) (sym (length-drop p rom)) Has-word) (ap₂ plan_of first second ∙ e) in
-      sym (rw (lt-leb (length rom) p in-rom) (ap (λ (f : Found). found_flow k p (placed_of p (drop p rom) f)) found))
+      sym (rw (lt-leb (length rom) p in_rom) (ap (λ (f : Found). found_flow k p (placed_of p (drop p rom) f)) found))
 
-  pub branch-word : get_or rom p 0 / 16 ≡ 4
+  pub branch_word : get_or rom p 0 / 16 ≡ 4
       → branch_flow (get_or rom p 0 % 16) (next_of p 2) (target_of (next_of p 2) (Near (get_or rom (p + 1) 0))) 4 ≡ flow_at k rom p
   unfolding goes_flow most_of base_of
-  branch-word e = word-flow (Bcc (get_or rom p 0 % 16) (Near (get_or rom (p + 1) 0))) (rw e)
+  branch_word e = word_flow (Bcc (get_or rom p 0 % 16) (Near (get_or rom (p + 1) 0))) (rw e)
 
-  pub told-word : (s : ℕ) → Tells k s (plan_of (get_or rom p 0) (get_or rom (p + 1) 0)) → Next (next_of p 2) s ≡ flow_at k rom p
+  pub told_word : (s : ℕ) → Tells k s (plan_of (get_or rom p 0) (get_or rom (p + 1) 0)) → Next (next_of p 2) s ≡ flow_at k rom p
   unfolding goes_flow
-  told-word s t = go (plan_of (get_or rom p 0) (get_or rom (p + 1) 0)) refl t
+  told_word s t = go (plan_of (get_or rom p 0) (get_or rom (p + 1) 0)) refl t
     where
       go : (q : Plan) → plan_of (get_or rom p 0) (get_or rom (p + 1) 0) ≡ q → Tells k s q → Next (next_of p 2) s ≡ flow_at k rom p
-      go (Whole i) e u = sym (ap₂ (goes_flow p (next_of p 2)) u.1 u.0) ∙ word-flow i e
+      go (Whole i) e u = sym (ap₂ (goes_flow p (next_of p 2)) u.1 u.0) ∙ word_flow i e
       go (Lacks q) e u = absurd u
       go Nothing e u = absurd u

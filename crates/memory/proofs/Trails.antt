@@ -73,6 +73,6 @@ module _ (t x : ℕ) (l : t < 134217728) (m : x < 134217728) where
   lower : (t % 134217728 * 134217728 + x) % 134217728 ≡ x
   lower = omega arith
 
-  pub told-behind : trail_in (noted t x) ≡ call_in t ++ call_in x
+  pub told_behind : trail_in (noted t x) ≡ call_in t ++ call_in x
   unfolding trail_in
-  told-behind = rw (upper, lower)
+  told_behind = rw (upper, lower)

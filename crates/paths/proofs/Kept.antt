@@ -13,8 +13,8 @@ use Rattle.paths.specs.Paths.{Leads, Enters, count_of, deep, ends, here, stop, C
 use Rattle.paths.specs.Runs.{Ending, returned, stopped, left, Off, Run, returns, stops, leaves, Fair, Bounded}
 use Rattle.paths.proofs.Laws.{le_or}
 use Rattle.paths.proofs.Owed as Owed
-use Rattle.paths.proofs.Owed.{Move, Tail, Fine, fine-here, fine-on, some-tail, back-over}
-use Rattle.paths.proofs.Once.{OneStep, keeping-one, run-within}
+use Rattle.paths.proofs.Owed.{Move, Tail, Fine, fine_here, fine_on, some_tail, back_over}
+use Rattle.paths.proofs.Once.{OneStep, keeping_one, run_within}
 
 eq_or : (a b : ℕ) → (a ≡ b) ⊎ (a ≡ b → ⊥)
 eq_or a b = ⊎_elim (λ h. ⊎_elim (λ k. inl (omega arith)) (λ k. inr (λ e. omega arith)) (le_or b a)) (λ h. inr (λ e. omega arith)) (le_or a b)
@@ -44,7 +44,7 @@ module _ (M : Machine) (O : OneStep M) (flow : ℕ → Flow) (len : ℕ) (outsid
 
   -- after a step, what is owed is less by its states
   lighter : {d p d' p' n : ℕ} {ks ks' : List ℕ} (N : ℕ) → Fine flow d p ks → Owes d p ks N → Move flow d p ks n d' p' ks' → Owes d' p' ks' (N - n) × (n ≤ N)
-  lighter {n = n} N f o m = ((λ x t. let y = back-over flow (fine-here flow f) m t in omega (arith, y.2, o y.0 y.1)), (let x = some-tail flow len outside (fine-on flow m f) in let y = back-over flow (fine-here flow f) m x.1 in omega (arith, y.2, o y.0 y.1)))
+  lighter {n = n} N f o m = ((λ x t. let y = back_over flow (fine_here flow f) m t in omega (arith, y.2, o y.0 y.1)), (let x = some_tail flow len outside (fine_on flow m f) in let y = back_over flow (fine_here flow f) m x.1 in omega (arith, y.2, o y.0 y.1)))
 
   one_more : {s t : Keeps M} {n N : ℕ} → Off (keeping M) s → Moves M s t n → n ≤ N → Ended (keeping M) t (N - n) → Ended (keeping M) s N
   one_more {s} {t} {n} {N} o d l b = go b.run
@@ -57,14 +57,14 @@ module _ (M : Machine) (O : OneStep M) (flow : ℕ → Flow) (len : ℕ) (outsid
           put (stops x y) = stops (more o d x) y
           put (leaves x y) = leaves (more o d x) y
 
-  home-none : {x : Keeps M} → Keeping.Home M x → x.kept ≡ []
-  home-none (last r) = refl
+  home_none : {x : Keeps M} → Keeping.Home M x → x.kept ≡ []
+  home_none (last r) = refl
 
   not_home : (s : M.State) (ks : List ℕ) → (M.AtReturn s → ⊥) → Off (keeping M) (keeps s ks)
   not_home s ks o (last r) = o r
 
   not_last : (s : M.State) (k : ℕ) (ks : List ℕ) → Off (keeping M) (keeps s (k ∷ ks))
-  not_last s k ks h = let e : ◌≡◌ {A = List ℕ} (k ∷ ks) [] = home-none h in absurd (let z : ◌≡◌ {A = ℕ} 0 1 = cc in omega arith)
+  not_last s k ks h = let e : ◌≡◌ {A = List ℕ} (k ∷ ks) [] = home_none h in absurd (let z : ◌≡◌ {A = ℕ} 0 1 = cc in omega arith)
 
   -- fuel k, levels left d, what is owed N
   abbrev Goal : ℕ → Type 0
@@ -73,11 +73,11 @@ module _ (M : Machine) (O : OneStep M) (flow : ℕ → Flow) (len : ℕ) (outsid
   module _ (N : ℕ) (s : M.State) (next : (N' d : ℕ) (t : M.State) (ks : List ℕ) → N' < N → Kept t → Fine flow d (M.pc t) ks → d + length ks ≡ 8 → Owes d (M.pc t) ks N' → Ended (keeping M) (keeps t ks) N') where
     into : (d : ℕ) (ks : List ℕ) (t : M.State) (k n : ℕ) → (M.AtReturn s → ⊥) → M.Pushes s k → M.Does s t n → Kept t → Leads (flow (M.pc s)) k → Enters (flow (M.pc s)) (M.pc t) → 1 ≤ n → n ≤ count_of (flow (M.pc s))
         → Fine flow d (M.pc s) ks → d + length ks ≡ 8 → Owes d (M.pc s) ks N → Ended (keeping M) (keeps s ks) N
-    into zero ks t k n nr ps does kt w e one h f len8 o = absurd (fine-here flow f (M.pc s) (here {r = TooDeep (M.pc s)} (deep (M.pc t) e)))
+    into zero ks t k n nr ps does kt w e one h f len8 o = absurd (fine_here flow f (M.pc s) (here {r = TooDeep (M.pc s)} (deep (M.pc t) e)))
     into (suc d) ks t k n nr ps does kt w e one h f len8 o =
         let m : Move flow (suc d) (M.pc s) ks n d (M.pc t) (k ∷ ks) = Owed.called e w h in
         let l = lighter N f o m in
-        one_more (not_home s ks nr) (called ps (omega (arith, len8)) does) l.1 (next (N - n) d t (k ∷ ks) (omega (arith, l.1)) kt (fine-on flow m f) (omega (arith, len8)) l.0)
+        one_more (not_home s ks nr) (called ps (omega (arith, len8)) does) l.1 (next (N - n) d t (k ∷ ks) (omega (arith, l.1)) kt (fine_on flow m f) (omega (arith, len8)) l.0)
 
     back : (d : ℕ) (ks : List ℕ) (t : M.State) (n m : ℕ) → M.AtReturn s → M.Does s t n → Kept t → flow (M.pc s) ≡ Ends m → 1 ≤ n → n ≤ m
         → Fine flow d (M.pc s) ks → d + length ks ≡ 8 → Owes d (M.pc s) ks N → Ended (keeping M) (keeps s ks) N
@@ -90,7 +90,7 @@ module _ (M : Machine) (O : OneStep M) (flow : ℕ → Flow) (len : ℕ) (outsid
             let mv : Move flow d (M.pc s) (k ∷ ks) n (suc d) k ks = Owed.came i h in
             let l = lighter N f o mv in
             one_more (not_last s k ks) (came r does e) l.1
-            (next (N - n) (suc d) t ks (omega (arith, l.1)) kt (subst (λ (p : ℕ). Fine flow (suc d) p ks) (sym e) (fine-on flow mv f)) (omega (arith, len8)) (subst (λ (p : ℕ). Owes (suc d) p ks (N - n)) (sym e) l.0))
+            (next (N - n) (suc d) t ks (omega (arith, l.1)) kt (subst (λ (p : ℕ). Fine flow (suc d) p ks) (sym e) (fine_on flow mv f)) (omega (arith, len8)) (subst (λ (p : ℕ). Owes (suc d) p ks (N - n)) (sym e) l.0))
 
         other : (M.pc t ≡ k → ⊥) → Ended (keeping M) (keeps s (k ∷ ks)) N
         other ne = record { steps = 0; states = 0; ending = left elsewhere; run = leaves none (at_elsewhere r does ne); fair = tt; in_states = omega arith }
@@ -100,19 +100,19 @@ module _ (M : Machine) (O : OneStep M) (flow : ℕ → Flow) (len : ℕ) (outsid
     at d ks (onward {t = t} {n = n} nr np does kt ne w one h) f len8 o =
         let m : Move flow d (M.pc s) ks n d (M.pc t) ks = Owed.went ne w h in
         let l = lighter N f o m in
-        one_more (not_home s ks nr) (went np nr does) l.1 (next (N - n) d t ks (omega (arith, l.1)) kt (fine-on flow m f) len8 l.0)
+        one_more (not_home s ks nr) (went np nr does) l.1 (next (N - n) d t ks (omega (arith, l.1)) kt (fine_on flow m f) len8 l.0)
     at d ks (entered {t = t} {k = k} {n = n} nr ps does kt w e one h) f len8 o = into d ks t k n nr ps does kt w e one h f len8 o
     at d ks (by_data {r = r} x y) f len8 o = record { steps = 0; states = 0; ending = stopped r; run = stops none x; fair = y; in_states = omega arith }
 
   goes_on : (k : ℕ) → Goal k
-  goes_on zero N d s ks h ks' f len8 o = at N s (λ N' d t ks l. absurd (omega arith)) d ks (step s ks' (λ r e. fine-here flow f (M.pc s) (here (stop e)))) f len8 o
-  goes_on (suc k) N d s ks h ks' f len8 o = at N s (λ N' d t ks l a b c e. goes_on k N' d t ks (omega arith) a b c e) d ks (step s ks' (λ r e. fine-here flow f (M.pc s) (here (stop e)))) f len8 o
+  goes_on zero N d s ks h ks' f len8 o = at N s (λ N' d t ks l. absurd (omega arith)) d ks (step s ks' (λ r e. fine_here flow f (M.pc s) (here (stop e)))) f len8 o
+  goes_on (suc k) N d s ks h ks' f len8 o = at N s (λ N' d t ks l a b c e. goes_on k N' d t ks (omega arith) a b c e) d ks (step s ks' (λ r e. fine_here flow f (M.pc s) (here (stop e)))) f len8 o
 
-  owes-largest : {p n : ℕ} → Largest flow 8 p n → Owes 8 p [] n
-  owes-largest l m (Owed.last r) = l.most m r
+  owes_largest : {p n : ℕ} → Largest flow 8 p n → Owes 8 p [] n
+  owes_largest l m (Owed.last r) = l.most m r
 
   -- the promise
   pub bounded : (s : M.State) (n : ℕ) → Kept s → Clear flow 8 (M.pc s) → Largest flow 8 (M.pc s) n → Bounded (keeping M) (keeps s []) n
   bounded s n k c l =
-      let x : Ended (keeping M) (keeps s []) n = goes_on n n 8 s [] (omega arith) k (Owed.last c) refl (owes-largest l) in
-      record { steps = x.steps; states = x.states; ending = x.ending; run = x.run; fair = x.fair; within = λ c m t z. omega (arith, x.in_states, run-within (keeping M) (keeping-one M O) x.run z); in_states = x.in_states }
+      let x : Ended (keeping M) (keeps s []) n = goes_on n n 8 s [] (omega arith) k (Owed.last c) refl (owes_largest l) in
+      record { steps = x.steps; states = x.states; ending = x.ending; run = x.run; fair = x.fair; within = λ c m t z. omega (arith, x.in_states, run_within (keeping M) (keeping_one M O) x.run z); in_states = x.in_states }

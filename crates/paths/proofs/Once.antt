@@ -56,13 +56,13 @@ module _ (M : Machine) (O : OneStep M) where
   one_kept (none_kept r a e) (pull r' e') i = absurd (let z : ◌≡◌ {A = ℕ} 0 1 = cc in omega arith)
   one_kept (none_kept r a e) (none_kept r' a' e') i = cc
 
-  both-same : {s t : M.State} {ks ls : List ℕ} → s ≡ t → ks ≡ ls → ◌≡◌ {A = Keeps M} (keeps s ks) (keeps t ls)
-  both-same e i = rw (e, i)
+  both_same : {s t : M.State} {ks ls : List ℕ} → s ≡ t → ks ≡ ls → ◌≡◌ {A = Keeps M} (keeps s ks) (keeps t ls)
+  both_same e i = rw (e, i)
 
-  one-move : (x y z : Keeps M) (n m : ℕ) → Moves M x y n → Moves M x z m → (y ≡ z) × (n ≡ m)
-  one-move x y z n m a b =
+  one_move : (x y z : Keeps M) (n m : ℕ) → Moves M x y n → Moves M x z m → (y ≡ z) × (n ≡ m)
+  one_move x y z n m a b =
       let i = O.one_state x.state y.state z.state n m (does a) (does b) in
-      (both-same i.0 (one_kept (seen a) (seen b) i.0), i.1)
+      (both_same i.0 (one_kept (seen a) (seen b) i.0), i.1)
 
   -- why the mode ends
   data Why (x : Keeps M) : Leaving → Type 0 where
@@ -73,11 +73,11 @@ module _ (M : Machine) (O : OneStep M) where
   why (at_ninth {t = t} {k = k} {n = n} p h d) = full k n t p h d
   why (at_elsewhere {t = t} {ks = ks} {k = k} {n = n} r d h) = off k n ks t r refl d h
 
-  one-why : {x : Keeps M} {e f : Leaving} → Why x e → Why x f → e ≡ f
-  one-why (full k n t p h d) (full k' n' t' p' h' d') = refl
-  one-why {x} (full k n t p h d) (off k' n' ks t' r i d' o) = absurd (O.no_push x.state k r p)
-  one-why {x} (off k' n' ks t' r i d' o) (full k n t p h d) = absurd (O.no_push x.state k r p)
-  one-why (off k n ks t r i d o) (off k' n' ks' t' r' i' d' o') = refl
+  one_why : {x : Keeps M} {e f : Leaving} → Why x e → Why x f → e ≡ f
+  one_why (full k n t p h d) (full k' n' t' p' h' d') = refl
+  one_why {x} (full k n t p h d) (off k' n' ks t' r i d' o) = absurd (O.no_push x.state k r p)
+  one_why {x} (off k' n' ks t' r i d' o) (full k n t p h d) = absurd (O.no_push x.state k r p)
+  one_why (off k n ks t r i d o) (off k' n' ks' t' r' i' d' o') = refl
 
   no_move : {x y : Keeps M} {n : ℕ} {e : Leaving} → M.Does x.state y.state n → Seen x y → Why x e → ⊥
   no_move d (same np nr e) (full k n t p h d') = np k p
@@ -93,14 +93,14 @@ module _ (M : Machine) (O : OneStep M) where
   not_stopped {x} {r} f (full k n t p h d) = O.not_both x.state t n r d f
   not_stopped {x} {r} f (off k n ks t a i d o) = O.not_both x.state t n r d f
 
-  pub keeping-one : OneStep (keeping M)
-  keeping-one = record {
-    one_state = one-move;
+  pub keeping_one : OneStep (keeping M)
+  keeping_one = record {
+    one_state = one_move;
     one_refusal = λ s r q x y. O.one_refusal s.state r q x y;
     not_both = λ s t n r x y. O.not_both s.state t.state n r (does x) y;
     one_push = λ s k l x y. absurd x;
     no_push = λ s k x y. y;
-    one_leaving = λ s e f x y. one-why (why x) (why y);
+    one_leaving = λ s e f x y. one_why (why x) (why y);
     not_leaving = λ s t n e x y. no_move (does x) (seen x) (why y);
     not_refused = λ s r e x y. not_stopped x (why y);
   }
@@ -109,40 +109,40 @@ module _ (M : Machine) (O : OneStep M) where
   -- what a run does last, in the state t: with its steps and states
   data Final (t : M.State) : ℕ → ℕ → Ending → Type 0 where
     at_home : {u : M.State} {n : ℕ} → M.AtReturn t → M.Does t u n → Final t 1 n returned
-    at-refusal : {r : Refusal} → M.Refuses t r → Final t 0 0 (stopped r)
-    at-leaving : {e : Leaving} → M.Leaves t e → Final t 0 0 (left e)
+    at_refusal : {r : Refusal} → M.Refuses t r → Final t 0 0 (stopped r)
+    at_leaving : {e : Leaving} → M.Leaves t e → Final t 0 0 (left e)
 
-  final-one : {t : M.State} {a b a' b' : ℕ} {e e' : Ending} → Final t a b e → Final t a' b' e' → (a ≡ a') × (b ≡ b') × (e ≡ e')
-  final-one {t} (at_home {u = u} {n = n} r d) (at_home {u = v} {n = m} r' d') = (refl, (O.one_state t u v n m d d').1, refl)
-  final-one {t} (at_home {u = u} {n = n} r d) (at-refusal {r = q} x) = absurd (O.not_both t u n q d x)
-  final-one {t} (at_home {u = u} {n = n} r d) (at-leaving {e = e} x) = absurd (O.not_leaving t u n e d x)
-  final-one {t} (at-refusal {r = q} x) (at_home {u = u} {n = n} r d) = absurd (O.not_both t u n q d x)
-  final-one {t} (at-refusal {r = q} x) (at-refusal {r = p} y) = (refl, refl, ap stopped (O.one_refusal t q p x y))
-  final-one {t} (at-refusal {r = q} x) (at-leaving {e = e} y) = absurd (O.not_refused t q e x y)
-  final-one {t} (at-leaving {e = e} x) (at_home {u = u} {n = n} r d) = absurd (O.not_leaving t u n e d x)
-  final-one {t} (at-leaving {e = e} x) (at-refusal {r = q} y) = absurd (O.not_refused t q e y x)
-  final-one {t} (at-leaving {e = e} x) (at-leaving {e = f} y) = (refl, refl, ap left (O.one_leaving t e f x y))
+  final_one : {t : M.State} {a b a' b' : ℕ} {e e' : Ending} → Final t a b e → Final t a' b' e' → (a ≡ a') × (b ≡ b') × (e ≡ e')
+  final_one {t} (at_home {u = u} {n = n} r d) (at_home {u = v} {n = m} r' d') = (refl, (O.one_state t u v n m d d').1, refl)
+  final_one {t} (at_home {u = u} {n = n} r d) (at_refusal {r = q} x) = absurd (O.not_both t u n q d x)
+  final_one {t} (at_home {u = u} {n = n} r d) (at_leaving {e = e} x) = absurd (O.not_leaving t u n e d x)
+  final_one {t} (at_refusal {r = q} x) (at_home {u = u} {n = n} r d) = absurd (O.not_both t u n q d x)
+  final_one {t} (at_refusal {r = q} x) (at_refusal {r = p} y) = (refl, refl, ap stopped (O.one_refusal t q p x y))
+  final_one {t} (at_refusal {r = q} x) (at_leaving {e = e} y) = absurd (O.not_refused t q e x y)
+  final_one {t} (at_leaving {e = e} x) (at_home {u = u} {n = n} r d) = absurd (O.not_leaving t u n e d x)
+  final_one {t} (at_leaving {e = e} x) (at_refusal {r = q} y) = absurd (O.not_refused t q e y x)
+  final_one {t} (at_leaving {e = e} x) (at_leaving {e = f} y) = (refl, refl, ap left (O.one_leaving t e f x y))
 
   no_more : {t u : M.State} {n a b : ℕ} {e : Ending} → Off M t → M.Does t u n → Final t a b e → ⊥
   no_more o d (at_home r x) = o r
-  no_more {t} {u} {n} o d (at-refusal {r = q} x) = O.not_both t u n q d x
-  no_more {t} {u} {n} o d (at-leaving {e = e} x) = O.not_leaving t u n e d x
+  no_more {t} {u} {n} o d (at_refusal {r = q} x) = O.not_both t u n q d x
+  no_more {t} {u} {n} o d (at_leaving {e = e} x) = O.not_leaving t u n e d x
 
   record Ended (s : M.State) (c m : ℕ) (e : Ending) : Type 0 where
     steps : ℕ
     states : ℕ
-    last-steps : ℕ
-    last-states : ℕ
+    last_steps : ℕ
+    last_states : ℕ
     state : M.State
     there : Steps M (Off M) s steps states state
-    final : Final state last-steps last-states e
-    all-steps : c ≡ steps + last-steps
-    all-states : m ≡ states + last-states
+    final : Final state last_steps last_states e
+    all_steps : c ≡ steps + last_steps
+    all_states : m ≡ states + last_states
 
   ended : {s : M.State} {c m : ℕ} {e : Ending} → Run M s c m e → Ended s c m e
-  ended (returns {t = t} {c = c} {m = m} {n = n} l r d) = record { steps = c; states = m; last-steps = 1; last-states = n; state = t; there = l; final = at_home r d; all-steps = refl; all-states = refl }
-  ended (stops {t = t} {c = c} {m = m} l x) = record { steps = c; states = m; last-steps = 0; last-states = 0; state = t; there = l; final = at-refusal x; all-steps = omega arith; all-states = omega arith }
-  ended (leaves {t = t} {c = c} {m = m} l x) = record { steps = c; states = m; last-steps = 0; last-states = 0; state = t; there = l; final = at-leaving x; all-steps = omega arith; all-states = omega arith }
+  ended (returns {t = t} {c = c} {m = m} {n = n} l r d) = record { steps = c; states = m; last_steps = 1; last_states = n; state = t; there = l; final = at_home r d; all_steps = refl; all_states = refl }
+  ended (stops {t = t} {c = c} {m = m} l x) = record { steps = c; states = m; last_steps = 0; last_states = 0; state = t; there = l; final = at_refusal x; all_steps = omega arith; all_states = omega arith }
+  ended (leaves {t = t} {c = c} {m = m} l x) = record { steps = c; states = m; last_steps = 0; last_states = 0; state = t; there = l; final = at_leaving x; all_steps = omega arith; all_states = omega arith }
 
   together : {s t t' : M.State} {c c' m m' a a' b b' : ℕ} {e e' : Ending} → Steps M (Off M) s c m t → Final t a b e → Steps M (Off M) s c' m' t' → Final t' a' b' e'
       → (c ≡ c') × (m ≡ m') × (t ≡ t')
@@ -159,8 +159,8 @@ module _ (M : Machine) (O : OneStep M) where
       let a = ended x in
       let b = ended y in
       let g = together a.there a.final b.there b.final in
-      let f = final-one a.final (subst (λ (z : M.State). Final z b.last-steps b.last-states e') (sym g.2) b.final) in
-      (omega (arith, a.all-steps, b.all-steps, g.0, f.0), omega (arith, a.all-states, b.all-states, g.1, f.1), f.2)
+      let f = final_one a.final (subst (λ (z : M.State). Final z b.last_steps b.last_states e') (sym g.2) b.final) in
+      (omega (arith, a.all_steps, b.all_steps, g.0, f.0), omega (arith, a.all_states, b.all_states, g.1, f.1), f.2)
 
   -- steps that do not pass a return are a beginning of the run
   before : {s t t' : M.State} {c c' m m' a b : ℕ} {e : Ending} → Steps M (Off M) s c m t → Final t a b e → Steps M (Off M) s c' m' t' → m' ≤ m
@@ -171,5 +171,5 @@ module _ (M : Machine) (O : OneStep M) where
       let i = O.one_state s a a' n n' d d' in
       omega (arith, i.1, before k l (subst (λ (z : M.State). Steps M (Off M) z c₂ m₂ u) (sym i.0) k'))
 
-  pub run-within : {s t : M.State} {c c' m m' : ℕ} {e : Ending} → Run M s c m e → Steps M (Off M) s c' m' t → m' ≤ m
-  run-within x k = let a = ended x in omega (arith, a.all-states, before a.there a.final k)
+  pub run_within : {s t : M.State} {c c' m m' : ℕ} {e : Ending} → Run M s c m e → Steps M (Off M) s c' m' t → m' ≤ m
+  run_within x k = let a = ended x in omega (arith, a.all_states, before a.there a.final k)

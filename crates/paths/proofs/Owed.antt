@@ -5,7 +5,7 @@ use Rattle.refusal.specs.declared.Refusal.TheVariants.{TooDeep, FetchOutside}
 use Rattle.paths.specs.declared.Flow.{Flow}
 use Rattle.paths.specs.declared.Flow.TheVariants.{Next, Jump, Either, Call, Ends, Stop}
 use Rattle.paths.specs.Paths.{Leads, Enters, count_of, Forbidden, stop, deep, Open, Path, ends, goes, calls, here, Largest, Clear}
-use Rattle.paths.proofs.Laws.{le_or, up, clear-open, clear-on, clear-into}
+use Rattle.paths.proofs.Laws.{le_or, up, clear_open, clear_on, clear_into}
 
 module _ (flow : ℕ → Flow) where
   -- a clear place has a path, if what follows and what it enters have one
@@ -14,7 +14,7 @@ module _ (flow : ℕ → Flow) where
   from d p c on in' = at (flow p) refl
     where
       on' : (q : ℕ) → Leads (flow p) q → ((t : ℕ) → Enters (flow p) t → ⊥) → (n : ℕ) × Path flow d p n
-      on' q w ne = (count_of (flow p) + (on q w).0, goes (clear-open flow c) ne w (on q w).1)
+      on' q w ne = (count_of (flow p) + (on q w).0, goes (clear_open flow c) ne w (on q w).1)
 
       call : (x : ℕ) → d ≡ x → (n t : ℕ) → Leads (flow p) n → Enters (flow p) t → (m : ℕ) × Path flow d p m
       call zero z n t w e = absurd (c p (here {r = TooDeep p} (subst (λ (y : ℕ). Forbidden flow y p (TooDeep p)) (sym z) (deep t e))))
@@ -22,7 +22,7 @@ module _ (flow : ℕ → Flow) where
           let a = in' x t z e in let b = on n w in (
             count_of (flow p) + a.0 + b.0,
             subst (λ (y : ℕ). Path flow y p (count_of (flow p) + a.0 + b.0)) (sym z)
-                (calls e a.1 w (subst (λ (y : ℕ). Open flow y p) z (clear-open flow c)) (subst (λ (y : ℕ). Path flow y n b.0) z b.1)),
+                (calls e a.1 w (subst (λ (y : ℕ). Open flow y p) z (clear_open flow c)) (subst (λ (y : ℕ). Path flow y n b.0) z b.1)),
           )
 
       at : (f : Flow) → flow p ≡ f → (n : ℕ) × Path flow d p n
@@ -41,14 +41,14 @@ module _ (flow : ℕ → Flow) where
     places : (d : ℕ) → ((e t : ℕ) → d ≡ suc e → Clear flow e t → (n : ℕ) × Path flow e t n) → (k p : ℕ) → len ≤ p + k → Clear flow d p → (n : ℕ) × Path flow d p n
     places d below zero p h c = absurd (let l : p < len = inside c in omega arith)
     places d below (suc k) p h c =
-        from d p c (λ q w. let l : p < q = up flow (clear-open flow c) w in places d below k q (omega arith) (clear-on flow c w))
-        (λ e t z i. below e t z (clear-into flow (subst (λ (y : ℕ). Clear flow y p) z c) i))
+        from d p c (λ q w. let l : p < q = up flow (clear_open flow c) w in places d below k q (omega arith) (clear_on flow c w))
+        (λ e t z i. below e t z (clear_into flow (subst (λ (y : ℕ). Clear flow y p) z c) i))
 
     -- remaining depth falls
-    pub clear-path : (d p : ℕ) → Clear flow d p → (n : ℕ) × Path flow d p n
-    clear-path zero p c = places zero (λ e t z. absurd (let y : 0 ≡ suc e = z in omega arith)) len p (omega arith) c
-    clear-path (suc d) p c =
-        places (suc d) (λ e t z k. let q : d ≡ e = omega arith in subst (λ (x : ℕ). (n : ℕ) × Path flow x t n) q (clear-path d t (subst (λ (x : ℕ). Clear flow x t) (sym q) k))) len p (omega arith) c
+    pub clear_path : (d p : ℕ) → Clear flow d p → (n : ℕ) × Path flow d p n
+    clear_path zero p c = places zero (λ e t z. absurd (let y : 0 ≡ suc e = z in omega arith)) len p (omega arith) c
+    clear_path (suc d) p c =
+        places (suc d) (λ e t z k. let q : d ≡ e = omega arith in subst (λ (x : ℕ). (n : ℕ) × Path flow x t n) q (clear_path d t (subst (λ (x : ℕ). Clear flow x t) (sym q) k))) len p (omega arith) c
 
   -- a run that keeps the pushed addresses: the levels left, the place, and the addresses kept, the last first
   pub data Move : ℕ → ℕ → List ℕ → ℕ → ℕ → ℕ → List ℕ → Type 0 where
@@ -65,18 +65,18 @@ module _ (flow : ℕ → Flow) where
     last : {d p : ℕ} → Clear flow d p → Fine d p []
     then : {d p r : ℕ} {ks : List ℕ} → Clear flow d p → Fine (suc d) r ks → Fine d p (r ∷ ks)
 
-  pub fine-here : {d p : ℕ} {ks : List ℕ} → Fine d p ks → Clear flow d p
-  fine-here (last c) = c
-  fine-here (then c f) = c
+  pub fine_here : {d p : ℕ} {ks : List ℕ} → Fine d p ks → Clear flow d p
+  fine_here (last c) = c
+  fine_here (then c f) = c
 
-  fine-at : {d p q : ℕ} {ks : List ℕ} → Clear flow d q → Fine d p ks → Fine d q ks
-  fine-at c (last x) = last c
-  fine-at c (then x f) = then c f
+  fine_at : {d p q : ℕ} {ks : List ℕ} → Clear flow d q → Fine d p ks → Fine d q ks
+  fine_at c (last x) = last c
+  fine_at c (then x f) = then c f
 
-  pub fine-on : {d p d' p' n : ℕ} {ks ks' : List ℕ} → Move d p ks n d' p' ks' → Fine d p ks → Fine d' p' ks'
-  fine-on (went ne w h) f = fine-at (clear-on flow (fine-here f) w) f
-  fine-on (called e w h) f = then (clear-into flow (fine-here f) e) (fine-at (clear-on flow (fine-here f) w) f)
-  fine-on (came i h) (then c f) = f
+  pub fine_on : {d p d' p' n : ℕ} {ks ks' : List ℕ} → Move d p ks n d' p' ks' → Fine d p ks → Fine d' p' ks'
+  fine_on (went ne w h) f = fine_at (clear_on flow (fine_here f) w) f
+  fine_on (called e w h) f = then (clear_into flow (fine_here f) e) (fine_at (clear_on flow (fine_here f) w) f)
+  fine_on (came i h) (then c f) = f
 
   -- a path before what may still come
   before : {d p q m : ℕ} {ks : List ℕ} (s : ℕ) → ((x : ℕ) → Path flow d q x → Path flow d p (s + x)) → Tail d q ks m → Tail d p ks (s + m)
@@ -84,13 +84,13 @@ module _ (flow : ℕ → Flow) where
   before {d} {p} {ks = ks} s g (then {n = n} {m = m} r t) = let e : s + n + m ≡ s + (n + m) = omega arith in subst (λ (x : ℕ). Tail d p ks x) e (then (g n r) t)
 
   -- what may come after a step may come before it, with the step's states
-  pub back-over : {d p d' p' n m : ℕ} {ks ks' : List ℕ} → Clear flow d p → Move d p ks n d' p' ks' → Tail d' p' ks' m → (k : ℕ) × Tail d p ks k × (n + m ≤ k)
-  back-over {m = m} c (went {p = p} ne w h) t = (count_of (flow p) + m, before (count_of (flow p)) (λ x r. goes (clear-open flow c) ne w r) t, omega arith)
-  back-over c (called {d = d} {p = p} {q = q} e w h) (then {n = a} {m = b} r t) =
-      (count_of (flow p) + a + b, before (count_of (flow p) + a) (λ x y. calls e r w (clear-open flow c) y) t, omega arith)
-  back-over {m = m} c (came {s = s} i h) t = (s + m, then (ends i) t, omega arith)
+  pub back_over : {d p d' p' n m : ℕ} {ks ks' : List ℕ} → Clear flow d p → Move d p ks n d' p' ks' → Tail d' p' ks' m → (k : ℕ) × Tail d p ks k × (n + m ≤ k)
+  back_over {m = m} c (went {p = p} ne w h) t = (count_of (flow p) + m, before (count_of (flow p)) (λ x r. goes (clear_open flow c) ne w r) t, omega arith)
+  back_over c (called {d = d} {p = p} {q = q} e w h) (then {n = a} {m = b} r t) =
+      (count_of (flow p) + a + b, before (count_of (flow p) + a) (λ x y. calls e r w (clear_open flow c) y) t, omega arith)
+  back_over {m = m} c (came {s = s} i h) t = (s + m, then (ends i) t, omega arith)
 
   module _ (len : ℕ) (outside : (p : ℕ) → len ≤ p → flow p ≡ Stop (FetchOutside p)) where
-    pub some-tail : {d p : ℕ} {ks : List ℕ} → Fine d p ks → (m : ℕ) × Tail d p ks m
-    some-tail {d} {p} (last c) = let x = clear-path len outside d p c in (x.0, last x.1)
-    some-tail {d} {p} (then c f) = let x = clear-path len outside d p c in let y = some-tail f in (x.0 + y.0, then x.1 y.1)
+    pub some_tail : {d p : ℕ} {ks : List ℕ} → Fine d p ks → (m : ℕ) × Tail d p ks m
+    some_tail {d} {p} (last c) = let x = clear_path len outside d p c in (x.0, last x.1)
+    some_tail {d} {p} (then c f) = let x = clear_path len outside d p c in let y = some_tail f in (x.0 + y.0, then x.1 y.1)

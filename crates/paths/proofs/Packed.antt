@@ -9,7 +9,7 @@ use Rattle.paths.specs.Levels.{HeldIs, LevelFrom}
 use Rattle.paths.specs.MirrorRows.{barred, unpacked_of, level_of, total_of, joined, called_of, upwardOf, entered_of, reckonedOf}
 use Rattle.paths.specs.MirrorPacked.{packed_bar, packed_at, packed_total, packed_join, packed_call, packedUp, packedIn, packedFlow, notes_for, notes_of, kind_of, noted_of, plain_of}
 use Rattle.paths.proofs.Laws.{le_or, Listing}
-use Rattle.paths.proofs.Rows.{row-reckoned}
+use Rattle.paths.proofs.Rows.{row_reckoned}
 
 -- x is the row r, packed
 pub record Packs (r : Reckoned) (x : ℕ) : Type 0 where
@@ -67,43 +67,43 @@ packs_total s rest rest' x y h k e =
     (le_or x 4278190080)
 
 module _ (s : ℕ) {a b : Reckoned} {x y : ℕ} (A : Packs a x) (B : Packs b y) where
-  packs-join : Packs (joined s a b) (packed_join s x y)
+  packs_join : Packs (joined s a b) (packed_join s x y)
   unfolding joined packed_join
-  packs-join = rw (A.is, B.is) (packs_total s (max (unpacked_of x).figure (unpacked_of y).figure) (max x y) x y A.small B.small (λ h k. rw (clear x h, clear y k)))
+  packs_join = rw (A.is, B.is) (packs_total s (max (unpacked_of x).figure (unpacked_of y).figure) (max x y) x y A.small B.small (λ h k. rw (clear x h, clear y k)))
 
-  packs-call : Packs (called_of s a b) (packed_call s x y)
+  packs_call : Packs (called_of s a b) (packed_call s x y)
   unfolding called_of packed_call
-  packs-call = rw (A.is, B.is) (packs_total s (((unpacked_of x).figure + (unpacked_of y).figure) % 2 ^ 64) ((x + y) % 2 ^ 64) x y A.small B.small (λ h k. rw (clear x h, clear y k)))
+  packs_call = rw (A.is, B.is) (packs_total s (((unpacked_of x).figure + (unpacked_of y).figure) % 2 ^ 64) ((x + y) % 2 ^ 64) x y A.small B.small (λ h k. rw (clear x h, clear y k)))
 
 -- of the place p, from a table, with d levels left
 module _ (len : ℕ) (table : List ℕ) (d p : ℕ) (inside : p < 16777215) where
-  packs-up : (n t s : ℕ) → n < 16777215 → t < 16777215
+  packs_up : (n t s : ℕ) → n < 16777215 → t < 16777215
       → Packs (upwardOf (level_of len table d) (level_of len table (d - 1)) p n t s) (packedUp (packed_at len table d) (packed_at len table (d - 1)) p n t s)
   unfolding upwardOf packedUp
-  packs-up n t s h k = go (leb n p || leb t p)
+  packs_up n t s h k = go (leb n p || leb t p)
     where
       go : (v : Bool) → Packs (cond v (barred p) (joined s (level_of len table d n) (level_of len table d t))) (cond v (packed_bar p) (packed_join s (packed_at len table d n) (packed_at len table d t)))
       go true = packs_bar p inside
-      go false = packs-join s (packs_at len table d n h) (packs_at len table d t k)
+      go false = packs_join s (packs_at len table d n h) (packs_at len table d t k)
 
-  packs-in : (n t s : ℕ) → n < 16777215 → t < 16777215
+  packs_in : (n t s : ℕ) → n < 16777215 → t < 16777215
       → Packs (entered_of (level_of len table d) (level_of len table (d - 1)) d p n t s) (packedIn (packed_at len table d) (packed_at len table (d - 1)) d p n t s)
   unfolding entered_of packedIn
-  packs-in n t s h k = go (eqb d 0)
+  packs_in n t s h k = go (eqb d 0)
     where
       go : (v : Bool) → Packs (cond v (barred p) (called_of s (level_of len table (d - 1) t) (level_of len table d n))) (cond v (packed_bar p) (packed_call s (packed_at len table (d - 1) t) (packed_at len table d n)))
       go true = packs_bar p inside
-      go false = packs-call s (packs_at len table (d - 1) t k) (packs_at len table d n h)
+      go false = packs_call s (packs_at len table (d - 1) t k) (packs_at len table d n h)
 
-  packs-flow : (f : Flow) → ((q : ℕ) → Leads f q → q < 16777215) → ((t : ℕ) → Enters f t → t < 16777215)
+  packs_flow : (f : Flow) → ((q : ℕ) → Leads f q → q < 16777215) → ((t : ℕ) → Enters f t → t < 16777215)
       → Packs (reckonedOf (level_of len table d) (level_of len table (d - 1)) d p f) (packedFlow (packed_at len table d) (packed_at len table (d - 1)) d p f)
   unfolding reckonedOf packedFlow
-  packs-flow (Next n s) w u = packs-up n n s (w n refl) (w n refl)
-  packs-flow (Jump t s) w u = packs-up t t s (w t refl) (w t refl)
-  packs-flow (Either n t s) w u = packs-up n t s (w n (inl refl)) (w t (inr refl))
-  packs-flow (Call n t s) w u = packs-in n t s (w n refl) (u t refl)
-  packs-flow (Ends s) w u = packs_figure (min s 1000000001) (omega arith)
-  packs-flow (Stop r) w u = packs_bar p inside
+  packs_flow (Next n s) w u = packs_up n n s (w n refl) (w n refl)
+  packs_flow (Jump t s) w u = packs_up t t s (w t refl) (w t refl)
+  packs_flow (Either n t s) w u = packs_up n t s (w n (inl refl)) (w t (inr refl))
+  packs_flow (Call n t s) w u = packs_in n t s (w n refl) (u t refl)
+  packs_flow (Ends s) w u = packs_figure (min s 1000000001) (omega arith)
+  packs_flow (Stop r) w u = packs_bar p inside
 
 -- what is noted
 plain_flow : (same less : ℕ → ℕ) (d p : ℕ) (f : Flow) → packedFlow same less d p (plain_of f) ≡ packedFlow same less d p f
@@ -145,18 +145,18 @@ place_in : {p : ℕ} → IsPlace p → p < 16777215
 place_in z = omega (arith, z.even, z.in_range)
 
 module _ (flow : ℕ → Flow) (len : ℕ) (L : Listing flow len) (p : ℕ) (z : IsPlace p) where
-  pub noted-flow : noted_of ((notes_of (flow p)).to / 4294967296) ((notes_of (flow p)).on / 4294967296) ≡ plain_of (flow p)
-  noted-flow = noted_is (flow p) (λ q w. (L.ways p q z w).in_range) (λ t u. (L.entries p t z u).in_range) (omega (arith, L.few p z))
+  pub noted_flow : noted_of ((notes_of (flow p)).to / 4294967296) ((notes_of (flow p)).on / 4294967296) ≡ plain_of (flow p)
+  noted_flow = noted_is (flow p) (λ q w. (L.ways p q z w).in_range) (λ t u. (L.entries p t z u).in_range) (omega (arith, L.few p z))
 
   -- the packed row of p from what is noted there, the rows of the places above it, and of all with a level less
   module _ (table : List ℕ) (d to on x : ℕ) (noted : noted_of to on ≡ plain_of (flow p)) (is : x ≡ packedFlow (packed_at len table d) (packed_at len table (d - 1)) d p (noted_of to on)) where
-    packs-row : Packs (reckonedOf (level_of len table d) (level_of len table (d - 1)) d p (flow p)) x
-    packs-row =
+    packs_row : Packs (reckonedOf (level_of len table d) (level_of len table (d - 1)) d p (flow p)) x
+    packs_row =
         rw (is, noted, plain_flow (packed_at len table d) (packed_at len table (d - 1)) d p (flow p))
-        (packs-flow len table d p (place_in z) (flow p) (λ q w. place_in (L.ways p q z w)) (λ t u. place_in (L.entries p t z u)))
+        (packs_flow len table d p (place_in z) (flow p) (λ q w. place_in (L.ways p q z w)) (λ t u. place_in (L.entries p t z u)))
 
-    pub packed-small : x < 4294967296
-    packed-small = packs-row.small
+    pub packed_small : x < 4294967296
+    packed_small = packs_row.small
 
-    pub packed-held : LevelFrom flow len table d (p + 2) → ((e : ℕ) → d ≡ suc e → LevelFrom flow len table e 0) → HeldIs flow d p (unpacked_of x)
-    packed-held R C = rw packs-row.is at (row-reckoned flow len L table d p z R C)
+    pub packed_held : LevelFrom flow len table d (p + 2) → ((e : ℕ) → d ≡ suc e → LevelFrom flow len table e 0) → HeldIs flow d p (unpacked_of x)
+    packed_held R C = rw packs_row.is at (row_reckoned flow len L table d p z R C)

@@ -12,12 +12,12 @@ module _ (flow : ℕ → Flow) (len : ℕ) (t : List ℕ) (d p x : ℕ) (even : 
   kept = set t (p + d % 2) x
 
   -- it leaves the level below as it was
-  pub kept-below : (e : ℕ) → d ≡ suc e → LevelFrom flow len t e 0 → LevelFrom flow len kept e 0
-  kept-below e i R q h y l =
+  pub kept_below : (e : ℕ) → d ≡ suc e → LevelFrom flow len t e 0 → LevelFrom flow len kept e 0
+  kept_below e i R q h y l =
       subst (λ (w : ℕ). HeldIs flow e q (unpacked_of w)) (sym (get_or-set_other t (p + d % 2) (q + e % 2) x 0 (omega arith))) (R q h y l)
 
-  pub kept-rows : p + 1 < length t → HeldIs flow d p (unpacked_of x) → LevelFrom flow len t d (p + 2) → LevelFrom flow len kept d p
-  kept-rows room r R q h y l =
+  pub kept_rows : p + 1 < length t → HeldIs flow d p (unpacked_of x) → LevelFrom flow len t d (p + 2) → LevelFrom flow len kept d p
+  kept_rows room r R q h y l =
       ⊎_elim
       (λ (k : q ≤ p). let i : q ≡ p = omega arith in
       subst (λ (z : ℕ). HeldIs flow d z (unpacked_of (get_or kept (z + d % 2) 0))) (sym i)
@@ -25,28 +25,28 @@ module _ (flow : ℕ → Flow) (len : ℕ) (t : List ℕ) (d p x : ℕ) (even : 
       (λ (k : p < q). subst (λ (w : ℕ). HeldIs flow d q (unpacked_of w)) (sym (get_or-set_other t (p + d % 2) (q + d % 2) x 0 (omega arith))) (R q (omega arith) y l))
       (le_or q p)
 
-  pub kept-rest : p + 2 ≤ len → (i : ℕ) → len ≤ i → get_or kept i 0 ≡ get_or t i 0
-  kept-rest h i l = get_or-set_other t (p + d % 2) i x 0 (omega arith)
+  pub kept_rest : p + 2 ≤ len → (i : ℕ) → len ≤ i → get_or kept i 0 ≡ get_or t i 0
+  kept_rest h i l = get_or-set_other t (p + d % 2) i x 0 (omega arith)
 
 -- the two numbers of p
 module _ (t : List ℕ) (p x y : ℕ) where
   abbrev pub stored : List ℕ
   stored = set (set t p x) (p + 1) y
 
-  pub stored-length : length stored ≡ length t
-  stored-length = simp length-set
+  pub stored_length : length stored ≡ length t
+  stored_length = simp length-set
 
   stored_other : (q : ℕ) → q ≢ p → q ≢ p + 1 → get_or stored q 0 ≡ get_or t q 0
   stored_other q a b = get_or-set_other (set t p x) (p + 1) q y 0 b ∙ get_or-set_other t p q x 0 a
 
-  pub stored-rest : (n : ℕ) → p + 2 ≤ n → (i : ℕ) → n ≤ i → get_or stored i 0 ≡ get_or t i 0
-  stored-rest n h i l = stored_other i (omega arith) (omega arith)
+  pub stored_rest : (n : ℕ) → p + 2 ≤ n → (i : ℕ) → n ≤ i → get_or stored i 0 ≡ get_or t i 0
+  stored_rest n h i l = stored_other i (omega arith) (omega arith)
 
-  pub stored-before : (i : ℕ) → i < p → get_or stored i 0 ≡ get_or t i 0
-  stored-before i h = stored_other i (omega arith) (omega arith)
+  pub stored_before : (i : ℕ) → i < p → get_or stored i 0 ≡ get_or t i 0
+  stored_before i h = stored_other i (omega arith) (omega arith)
 
-  pub stored-above : (i : ℕ) → p + 2 ≤ i → get_or stored i 0 ≡ get_or t i 0
-  stored-above i h = stored_other i (omega arith) (omega arith)
+  pub stored_above : (i : ℕ) → p + 2 ≤ i → get_or stored i 0 ≡ get_or t i 0
+  stored_above i h = stored_other i (omega arith) (omega arith)
 
   pub stored_at : p + 1 < length t → (get_or stored p 0 ≡ x) × (get_or stored (p + 1) 0 ≡ y)
   stored_at room = (get_or-set_other (set t p x) (p + 1) p y 0 (omega arith) ∙ get_or-set_same t p x 0 (omega arith), get_or-set_same (set t p x) (p + 1) y 0 (simp length-set (omega arith)))

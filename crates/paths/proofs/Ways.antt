@@ -7,9 +7,9 @@ use Rattle.paths.specs.declared.WayOn.{WayOn}
 use Rattle.paths.specs.declared.WayOn.TheVariants.{On, Home}
 use Rattle.paths.specs.Paths.{IsPlace, Leads, Enters, count_of, stop, Path, ends, goes, calls, Largest, IsFigure, Over, Row, figure, over, refused, RowsFrom, Follows, home, on, past, NextOnTie}
 use Rattle.paths.specs.MirrorRows.{row_of, better_of, onward_of}
-use Rattle.paths.proofs.Laws.{le_or, Both, both_next, both_jump, both_either, Listing, up, no-way-ends, no-call-ends, clear-open, clear-on, clear-into, clear_in, call-largest, largest-one, largest-join, largest-ends, row_one}
-use Rattle.paths.proofs.Levels.{path-down, clear_up, level-less}
-use Rattle.paths.proofs.Owed.{clear-path}
+use Rattle.paths.proofs.Laws.{le_or, Both, both_next, both_jump, both_either, Listing, up, no_way_ends, no_call_ends, clear_open, clear_on, clear_into, clear_in, call_largest, largest_one, largest_join, largest_ends, row_one}
+use Rattle.paths.proofs.Levels.{path_down, clear_up, level_less}
+use Rattle.paths.proofs.Owed.{clear_path}
 use Rattle.paths.proofs.Rows.{row_at}
 
 module _ (flow : ℕ → Flow) (len : ℕ) (L : Listing flow len) (table : List ℕ) (R : RowsFrom flow len table 0) where
@@ -19,84 +19,84 @@ module _ (flow : ℕ → Flow) (len : ℕ) (L : Listing flow len) (table : List 
   -- what follows a place that has a figure has one, and so has the routine that it calls: the table's, whatever the levels left
   on_row : {p total q n f : ℕ} → IsFigure flow p total → ((t : ℕ) → Enters (flow p) t → ⊥) → Leads (flow p) q → Row flow q n f → IsFigure flow q n
   on_row c ne w (figure x) = x
-  on_row c ne w (over v) = absurd (omega (arith, c.held, v.above, c.largest.most _ (goes (clear-open flow c.clear) ne w v.largest.some)))
-  on_row c ne w (refused x) = absurd (clear-on flow c.clear w _ x.met)
+  on_row c ne w (over v) = absurd (omega (arith, c.held, v.above, c.largest.most _ (goes (clear_open flow c.clear) ne w v.largest.some)))
+  on_row c ne w (refused x) = absurd (clear_on flow c.clear w _ x.met)
 
   past_row : {p total q t m n f : ℕ} → IsFigure flow p total → Enters (flow p) t → Leads (flow p) q → Path flow 7 t m → Row flow q n f → IsFigure flow q n
   past_row c e w r (figure x) = x
-  past_row c e w r (over v) = absurd (omega (arith, c.held, v.above, c.largest.most _ (calls e r w (clear-open flow c.clear) v.largest.some)))
-  past_row c e w r (refused x) = absurd (clear-on flow c.clear w _ x.met)
+  past_row c e w r (over v) = absurd (omega (arith, c.held, v.above, c.largest.most _ (calls e r w (clear_open flow c.clear) v.largest.some)))
+  past_row c e w r (refused x) = absurd (clear_on flow c.clear w _ x.met)
 
   in_row : {p total q t m n f : ℕ} → IsFigure flow p total → Enters (flow p) t → Leads (flow p) q → Path flow 8 q m → Row flow t n f → Largest flow 7 t n
-  in_row c e w r (figure x) = level-less flow (clear-into flow c.clear e) x.largest
+  in_row c e w r (figure x) = level_less flow (clear_into flow c.clear e) x.largest
   in_row c e w r (over v) =
-      absurd (omega (arith, c.held, v.above, c.largest.most _ (calls e (path-down flow v.largest.some 7 refl (clear-into flow c.clear e)) w (clear-open flow c.clear) r)))
-  in_row c e w r (refused x) = absurd (clear_up flow (clear-into flow c.clear e) _ x.met)
+      absurd (omega (arith, c.held, v.above, c.largest.most _ (calls e (path_down flow v.largest.some 7 refl (clear_into flow c.clear e)) w (clear_open flow c.clear) r)))
+  in_row c e w r (refused x) = absurd (clear_up flow (clear_into flow c.clear e) _ x.met)
 
   module _ (p total : ℕ) (z : IsPlace p) (c : IsFigure flow p total) where
     row : (q : ℕ) → IsPlace q → Row flow q (figureAt q) (row_of len table q).low
     row q y = row_at flow len L table 0 q R (omega arith) y
 
-    on-figure : (q : ℕ) → ((t : ℕ) → Enters (flow p) t → ⊥) → Leads (flow p) q → IsFigure flow q (figureAt q)
-    on-figure q ne w = on_row c ne w (row q (L.ways p q z w))
+    on_figure : (q : ℕ) → ((t : ℕ) → Enters (flow p) t → ⊥) → Leads (flow p) q → IsFigure flow q (figureAt q)
+    on_figure q ne w = on_row c ne w (row q (L.ways p q z w))
 
-    past-figure : (q t : ℕ) → Enters (flow p) t → Leads (flow p) q → IsFigure flow q (figureAt q)
-    past-figure q t e w = past_row c e w (clear-path flow len L.outside 7 t (clear-into flow c.clear e)).1 (row q (L.ways p q z w))
+    past_figure : (q t : ℕ) → Enters (flow p) t → Leads (flow p) q → IsFigure flow q (figureAt q)
+    past_figure q t e w = past_row c e w (clear_path flow len L.outside 7 t (clear_into flow c.clear e)).1 (row q (L.ways p q z w))
 
     -- what a call's routine costs stands in the table
-    pub routine-figure : (q t : ℕ) → Enters (flow p) t → Leads (flow p) q → Largest flow 7 t (figureAt t)
-    routine-figure q t e w = in_row c e w (past-figure q t e w).largest.some (row t (L.entries p t z e))
+    pub routine_figure : (q t : ℕ) → Enters (flow p) t → Leads (flow p) q → Largest flow 7 t (figureAt t)
+    routine_figure q t e w = in_row c e w (past_figure q t e w).largest.some (row t (L.entries p t z e))
 
-    total-is : (n t : ℕ) → Both (flow p) n t → total ≡ count_of (flow p) + max (figureAt n) (figureAt t)
-    total-is n t B = largest-one flow c.largest (largest-join flow n t B (clear-open flow c.clear) (on-figure n B.plain B.first).largest (on-figure t B.plain B.second).largest)
+    total_is : (n t : ℕ) → Both (flow p) n t → total ≡ count_of (flow p) + max (figureAt n) (figureAt t)
+    total_is n t B = largest_one flow c.largest (largest_join flow n t B (clear_open flow c.clear) (on_figure n B.plain B.first).largest (on_figure t B.plain B.second).largest)
 
   module _ (next : ℕ → WayOn) (same : (p n : ℕ) → IsPlace p → IsFigure flow p n → next p ≡ onward_of len table (flow p)) where
     -- followed from a place with a figure, the longest way has so many states
     module _ (p total : ℕ) (z : IsPlace p) (c : IsFigure flow p total) (rest : (q : ℕ) → Leads (flow p) q → IsFigure flow q (figureAt q) → Follows flow next q (figureAt q)) where
       follow : (q : ℕ) → next p ≡ On q → ((t : ℕ) → Enters (flow p) t → ⊥) → Leads (flow p) q → total ≡ count_of (flow p) + figureAt q → Follows flow next p total
-      follow q e ne w i = rw i (on e (clear-open flow c.clear) ne w (rest q w (on-figure p total z c q ne w)))
+      follow q e ne w i = rw i (on e (clear_open flow c.clear) ne w (rest q w (on_figure p total z c q ne w)))
 
       either : (n t : ℕ) → Both (flow p) n t → next p ≡ better_of len table n t → Follows flow next p total
       unfolding better_of
       either n t B e = go (le_or (figureAt t) (figureAt n))
         where
           go : (figureAt t ≤ figureAt n) ⊎ (figureAt n < figureAt t) → Follows flow next p total
-          go (inl h) = follow n (e ∙ simp (le-ltb (figureAt n) (figureAt t) h)) B.plain B.first (omega (arith, total-is p total z c n t B))
-          go (inr h) = follow t (e ∙ simp (lt-ltb (figureAt n) (figureAt t) h)) B.plain B.second (omega (arith, total-is p total z c n t B))
+          go (inl h) = follow n (e ∙ simp (le-ltb (figureAt n) (figureAt t) h)) B.plain B.first (omega (arith, total_is p total z c n t B))
+          go (inr h) = follow t (e ∙ simp (lt-ltb (figureAt n) (figureAt t) h)) B.plain B.second (omega (arith, total_is p total z c n t B))
 
       call : (n t s : ℕ) → flow p ≡ Call n t s → next p ≡ On n → Follows flow next p total
       call n t s i e =
           let w : Leads (flow p) n = rw i refl in
           let u : Enters (flow p) t = rw i refl in
-          let a = routine-figure p total z c n t u w in
-          let b = past-figure p total z c n t u w in
-          let h : total ≡ count_of (flow p) + figureAt t + figureAt n = largest-one flow c.largest (call-largest flow i (clear-open flow c.clear) a b.largest) in
-          rw h (past e (clear-open flow c.clear) u a w (rest n w b))
+          let a = routine_figure p total z c n t u w in
+          let b = past_figure p total z c n t u w in
+          let h : total ≡ count_of (flow p) + figureAt t + figureAt n = largest_one flow c.largest (call_largest flow i (clear_open flow c.clear) a b.largest) in
+          rw h (past e (clear_open flow c.clear) u a w (rest n w b))
 
-      follow-flow : (f : Flow) → flow p ≡ f → next p ≡ onward_of len table f → Follows flow next p total
+      follow_flow : (f : Flow) → flow p ≡ f → next p ≡ onward_of len table f → Follows flow next p total
       unfolding onward_of
-      follow-flow (Next n s) e i = let B : Both (flow p) n n = rw e (both_next n s) in follow n i B.plain (rw e refl) (omega (arith, total-is p total z c n n B))
-      follow-flow (Jump t s) e i = let B : Both (flow p) t t = rw e (both_jump t s) in follow t i B.plain (rw e refl) (omega (arith, total-is p total z c t t B))
-      follow-flow (Either n t s) e i = either n t (rw e (both_either n t s)) i
-      follow-flow (Call n t s) e i = call n t s e i
-      follow-flow (Ends s) e i = let h : total ≡ s = largest-one flow c.largest (largest-ends flow e) in rw h (home i e)
-      follow-flow (Stop r) e i = absurd (clear-open flow c.clear r (stop e))
+      follow_flow (Next n s) e i = let B : Both (flow p) n n = rw e (both_next n s) in follow n i B.plain (rw e refl) (omega (arith, total_is p total z c n n B))
+      follow_flow (Jump t s) e i = let B : Both (flow p) t t = rw e (both_jump t s) in follow t i B.plain (rw e refl) (omega (arith, total_is p total z c t t B))
+      follow_flow (Either n t s) e i = either n t (rw e (both_either n t s)) i
+      follow_flow (Call n t s) e i = call n t s e i
+      follow_flow (Ends s) e i = let h : total ≡ s = largest_one flow c.largest (largest_ends flow e) in rw h (home i e)
+      follow_flow (Stop r) e i = absurd (clear_open flow c.clear r (stop e))
 
-    follows-in : (k p total : ℕ) → len ≤ p + k → IsPlace p → IsFigure flow p total → Follows flow next p total
-    follows-in zero p total h z c = absurd (let i : p < len = clear_in flow len L c.clear in omega arith)
-    follows-in (suc k) p total h z c =
-        follow-flow p total z c (λ q w x. let i : p < q = up flow (clear-open flow c.clear) w in follows-in k q (figureAt q) (omega arith) (L.ways p q z w) x) (flow p) refl (same p total z c)
+    follows_in : (k p total : ℕ) → len ≤ p + k → IsPlace p → IsFigure flow p total → Follows flow next p total
+    follows_in zero p total h z c = absurd (let i : p < len = clear_in flow len L c.clear in omega arith)
+    follows_in (suc k) p total h z c =
+        follow_flow p total z c (λ q w x. let i : p < q = up flow (clear_open flow c.clear) w in follows_in k q (figureAt q) (omega arith) (L.ways p q z w) x) (flow p) refl (same p total z c)
 
     pub follows : (p total : ℕ) → IsPlace p → IsFigure flow p total → Follows flow next p total
-    follows p total z c = follows-in len p total (omega arith) z c
+    follows p total z c = follows_in len p total (omega arith) z c
 
     -- and where both ways have the same figure it goes on at the next instruction
-    pub next-on-tie : (p total : ℕ) → IsPlace p → IsFigure flow p total → NextOnTie flow p (next p)
+    pub next_on_tie : (p total : ℕ) → IsPlace p → IsFigure flow p total → NextOnTie flow p (next p)
     unfolding onward_of better_of
-    next-on-tie p total z c n t s m e l k =
+    next_on_tie p total z c n t s m e l k =
         let B : Both (flow p) n t = rw e (both_either n t s) in
-        let first : figureAt n ≡ m = largest-one flow (on-figure p total z c n B.plain B.first).largest l in
-        let second : figureAt t ≡ m = largest-one flow (on-figure p total z c t B.plain B.second).largest k in
+        let first : figureAt n ≡ m = largest_one flow (on_figure p total z c n B.plain B.first).largest l in
+        let second : figureAt t ≡ m = largest_one flow (on_figure p total z c t B.plain B.second).largest k in
         same p total z c ∙ rw (e, le-ltb (figureAt n) (figureAt t) (omega arith))
 
 -- what is followed is a path
@@ -143,16 +143,16 @@ module _ (flow : ℕ → Flow) {p total : ℕ} (l : Largest flow 8 p total) wher
 
     way_one : Begins way → Begins way' → way ≡ way'
     way_one (returns i e) (returns i' e') = cc
-    way_one (returns i e) (leads q m i' ne w x h) = absurd (no-way-ends flow e q w)
-    way_one (returns i e) (passes q u i' y w) = absurd (no-way-ends flow e q w)
-    way_one (leads q m i ne w x h) (returns i' e) = absurd (no-way-ends flow e q w)
+    way_one (returns i e) (leads q m i' ne w x h) = absurd (no_way_ends flow e q w)
+    way_one (returns i e) (passes q u i' y w) = absurd (no_way_ends flow e q w)
+    way_one (leads q m i ne w x h) (returns i' e) = absurd (no_way_ends flow e q w)
     way_one (leads q m i ne w x h) (leads q' m' i' ne' w' x' h') =
         let same : m' ≡ m = omega arith in
         on_one (flow p) refl w w' x (rw same at x') i i'
     way_one (leads q m i ne w x h) (passes q' u i' y w') = absurd (ne u y)
-    way_one (passes q u i y w) (returns i' e) = absurd (no-way-ends flow e q w)
+    way_one (passes q u i y w) (returns i' e) = absurd (no_way_ends flow e q w)
     way_one (passes q u i y w) (leads q' m i' ne w' x h) = absurd (ne u y)
     way_one (passes q u i y w) (passes q' u' i' y' w') = past_one u (flow p) y w w' i i'
 
-  pub follows-one : {next next' : ℕ → WayOn} → Follows flow next p total → Follows flow next' p total → NextOnTie flow p (next p) → NextOnTie flow p (next' p) → next p ≡ next' p
-  follows-one {next} {next'} f f' t t' = way_one (next p) (next' p) t t' (begins f) (begins f')
+  pub follows_one : {next next' : ℕ → WayOn} → Follows flow next p total → Follows flow next' p total → NextOnTie flow p (next p) → NextOnTie flow p (next' p) → next p ≡ next' p
+  follows_one {next} {next'} f f' t t' = way_one (next p) (next' p) t t' (begins f) (begins f')

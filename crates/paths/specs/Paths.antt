@@ -65,7 +65,7 @@ pub data Meets (flow : ℕ → Flow) : ℕ → ℕ → ℕ → Type 0 where
   into : {d p t f : ℕ} → Open flow (suc d) p → Enters (flow p) t → Meets flow d t f → Meets flow (suc d) p f
 
 -- n is the largest total of states over all paths from p. Of a call it is its own states, the largest total of the routine that it enters and that of what
--- follows: `call-largest` of `proofs/Laws.antt`
+-- follows: `call_largest` of `proofs/Laws.antt`
 pub record Largest (flow : ℕ → Flow) (d p n : ℕ) : Type 0 where
   pub some : Path flow d p n
   pub most : (m : ℕ) → Path flow d p m → m ≤ n

@@ -25,9 +25,9 @@ module _ (f : Condition) where
   bit : (place : ℕ) (b : Bool) → byte_of f / place % 2 ≡ num b → low_bit (byte_of f / place) ≡ b
   bit place b e = rw e (num_bit b)
 
-  pub condition-back : condition_of (byte_of f) ≡ f
+  pub condition_back : condition_of (byte_of f) ≡ f
   unfolding byte_of
-  condition-back =
+  condition_back =
       let i = num_le f.i in
       let ui = num_le f.ui in
       let h = num_le f.h in

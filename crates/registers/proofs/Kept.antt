@@ -44,9 +44,9 @@ abbrev Stays : ℕ → ℕ → ℕ → ℕ → ℕ → ℕ → Type 0
 Stays old x p m q n = min (p * m) (q * n) ≤ max p q → put p m old x / q % n ≡ old / q % n
 
 module _ (old x : ℕ) (l : old < 2 ^ 32) where
-  other-part : (w : Width) (d : ℕ) (v : Width) (e : ℕ) → Apart w d v e → insert_of w d old x / below_of v e % 2 ^ bits_of v ≡ old / below_of v e % 2 ^ bits_of v
+  other_part : (w : Width) (d : ℕ) (v : Width) (e : ℕ) → Apart w d v e → insert_of w d old x / below_of v e % 2 ^ bits_of v ≡ old / below_of v e % 2 ^ bits_of v
   unfolding insert_of
-  other-part w d v e =
+  other_part w d v e =
       kinds (λ p m. Stays old x p m (below_of v e) (2 ^ bits_of v))
       (kinds (Stays old x 256 256) (λ a. omega arith) (λ a. omega arith) (λ a. omega arith) (λ a. omega arith) (λ a. omega arith) v e)
       (kinds (Stays old x 1 256) (λ a. omega arith) (λ a. omega arith) (λ a. omega arith) (λ a. omega arith) (λ a. omega arith) v e)
@@ -62,29 +62,29 @@ pub record Whole (r : Registers) : Type 0 where
   pub words : (k : ℕ) → get_or r.er k 0 < 2 ^ 32
 
 module _ (r : Registers) (whole : Whole r) (w : Width) (d x : ℕ) where
-  pub part-new : part_of w (with_part w r d x) d ≡ x % 2 ^ bits_of w
+  pub part_new : part_of w (with_part w r d x) d ≡ x % 2 ^ bits_of w
   unfolding part_of with_part
-  part-new = rw (get_or-set_same r.er (d % 8) (insert_of w d (get_or r.er (d % 8) 0) x) 0 (omega (arith, whole.eight))) (new_part w d (get_or r.er (d % 8) 0) x (whole.words (d % 8)))
+  part_new = rw (get_or-set_same r.er (d % 8) (insert_of w d (get_or r.er (d % 8) 0) x) 0 (omega (arith, whole.eight))) (new_part w d (get_or r.er (d % 8) 0) x (whole.words (d % 8)))
 
   -- a part of another register
-  pub part-other-register : (v : Width) (e : ℕ) → e % 8 ≢ d % 8 → part_of v (with_part w r d x) e ≡ part_of v r e
+  pub part_other_register : (v : Width) (e : ℕ) → e % 8 ≢ d % 8 → part_of v (with_part w r d x) e ≡ part_of v r e
   unfolding part_of with_part
-  part-other-register v e n = rw (get_or-set_other r.er (d % 8) (e % 8) (insert_of w d (get_or r.er (d % 8) 0) x) 0 n)
+  part_other_register v e n = rw (get_or-set_other r.er (d % 8) (e % 8) (insert_of w d (get_or r.er (d % 8) 0) x) 0 n)
 
   -- another part of the same register
   pub part_apart : (v : Width) (e : ℕ) → d % 8 ≡ e % 8 → Apart w d v e → part_of v (with_part w r d x) e ≡ part_of v r e
   unfolding part_of with_part
   part_apart v e s a =
       rw (sym s, get_or-set_same r.er (d % 8) (insert_of w d (get_or r.er (d % 8) 0) x) 0 (omega (arith, whole.eight)))
-      (other-part (get_or r.er (d % 8) 0) x (whole.words (d % 8)) w d v e a)
+      (other_part (get_or r.er (d % 8) 0) x (whole.words (d % 8)) w d v e a)
 
-  pub pc-stays : (with_part w r d x).pc ≡ r.pc
+  pub pc_stays : (with_part w r d x).pc ≡ r.pc
   unfolding with_part
-  pc-stays = refl
+  pc_stays = refl
 
-  pub condition-stays : (with_part w r d x).condition ≡ r.condition
+  pub condition_stays : (with_part w r d x).condition ≡ r.condition
   unfolding with_part
-  condition-stays = refl
+  condition_stays = refl
 
 -- registers stay eight of 32 bits
 insert_small : (w : Width) (d old x : ℕ) → old < 2 ^ 32 → insert_of w d old x < 2 ^ 32

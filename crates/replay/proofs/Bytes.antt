@@ -18,8 +18,8 @@ pub no_true : {A : Type 0} → false ≡ true → A
 no_true h = absurd (let z : ◌≡◌ {A = ℕ} 0 1 = cc in omega arith)
 
 module _ (b : Board) (rom : List ℕ) where
-  pub by-stage : (k : Standing) (ram : List ℕ) (x : ℕ) (g : Stage) (m : Moment) → k.stage ≡ g → m ≡ stageTaken b rom g x k ram → m ≡ byteTaken b rom (moment k ram) x
-  by-stage k ram x g m e h = h ∙ ap (λ (s : Stage). stageTaken b rom s x k ram) (sym e)
+  pub by_stage : (k : Standing) (ram : List ℕ) (x : ℕ) (g : Stage) (m : Moment) → k.stage ≡ g → m ≡ stageTaken b rom g x k ram → m ≡ byteTaken b rom (moment k ram) x
+  by_stage k ram x g m e h = h ∙ ap (λ (s : Stage). stageTaken b rom s x k ram) (sym e)
 
   stays : (g : Stage) (x : ℕ) (k : Standing) (ram : List ℕ) → over_of g ≡ true → stageTaken b rom g x k ram ≡ moment k ram
   unfolding stageTaken
@@ -29,11 +29,11 @@ module _ (b : Board) (rom : List ℕ) where
   stays Closed x k ram h = refl
 
   -- what is told stays, whatever follows
-  pub told-stays : (s : Moment) (xs : List ℕ) → over_of s.replay.stage ≡ true → fed b rom s xs ≡ s
+  pub told_stays : (s : Moment) (xs : List ℕ) → over_of s.replay.stage ≡ true → fed b rom s xs ≡ s
   unfolding fed
-  told-stays s [] h = refl
-  told-stays s (x ∷ xs) h =
-      ap (λ (t : Moment). fed b rom t xs) (stays s.replay.stage x s.replay s.mem h) ∙ told-stays s xs h
+  told_stays s [] h = refl
+  told_stays s (x ∷ xs) h =
+      ap (λ (t : Moment). fed b rom t xs) (stays s.replay.stage x s.replay s.mem h) ∙ told_stays s xs h
 
   module _ (s : Moment) (bytes : List ℕ) (i : ℕ) where
     -- the byte at i, and then the rest

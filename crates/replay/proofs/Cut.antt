@@ -14,24 +14,24 @@ use Rattle.replay.specs.declared.Said.TheVariants.{Final}
 use Rattle.replay.specs.Replay.{Moment, moment, staged, ended, end_of, ended_of, closed, fed, begun, replay_of}
 use Rattle.replay.specs.Cuts.{Arrived, arrived, delivered, took, stageArrived, deliverOf, deliveries, joined}
 use Rattle.replay.specs.MirrorReplay.{over_of}
-use Rattle.replay.proofs.Bytes.{no_true, told-stays}
+use Rattle.replay.proofs.Bytes.{no_true, told_stays}
 
 module _ (b : Board) (rom : List ℕ) where
-  fed-both : (s : Moment) (xs ys : List ℕ) → fed b rom s (xs ++ ys) ≡ fed b rom (fed b rom s xs) ys
+  fed_both : (s : Moment) (xs ys : List ℕ) → fed b rom s (xs ++ ys) ≡ fed b rom (fed b rom s xs) ys
   unfolding fed
-  fed-both s [] ys = refl
-  fed-both s (x ∷ xs) ys = fed-both _ xs ys
+  fed_both s [] ys = refl
+  fed_both s (x ∷ xs) ys = fed_both _ xs ys
 
   abbrev left : Arrived → Moment
   left a = moment a.answer.replay a.mem
 
   -- a delivery leaves what its bytes do; where it is refused they would do nothing either
-  by-stage : (g : Stage) (s : Moment) (d : List ℕ) → (over_of g ≡ true → fed b rom s d ≡ s) → left (stageArrived b rom g s d) ≡ fed b rom s d
+  by_stage : (g : Stage) (s : Moment) (d : List ℕ) → (over_of g ≡ true → fed b rom s d ≡ s) → left (stageArrived b rom g s d) ≡ fed b rom s d
   unfolding stageArrived
-  by-stage Version s d h = refl
-  by-stage (Records p) s d h = refl
-  by-stage (Told t) s d h = sym (h refl)
-  by-stage Closed s d h = sym (h refl)
+  by_stage Version s d h = refl
+  by_stage (Records p) s d h = refl
+  by_stage (Told t) s d h = sym (h refl)
+  by_stage Closed s d h = sym (h refl)
 
   -- what a delivery is, by whether the replay is over
   pub late : (g : Stage) (s : Moment) (d : List ℕ) → over_of g ≡ true → stageArrived b rom g s d ≡ arrived (delivered s.replay (Final (Halted ReplayEnded))) s.mem
@@ -41,24 +41,24 @@ module _ (b : Board) (rom : List ℕ) where
   late (Told t) s d h = refl
   late Closed s d h = refl
 
-  pub in-time : (g : Stage) (s : Moment) (d : List ℕ) → over_of g ≡ false → stageArrived b rom g s d ≡ took b rom (fed b rom s d)
+  pub in_time : (g : Stage) (s : Moment) (d : List ℕ) → over_of g ≡ false → stageArrived b rom g s d ≡ took b rom (fed b rom s d)
   unfolding stageArrived
-  in-time Version s d h = refl
-  in-time (Records p) s d h = refl
-  in-time (Told t) s d h = no_true (sym h)
-  in-time Closed s d h = no_true (sym h)
+  in_time Version s d h = refl
+  in_time (Records p) s d h = refl
+  in_time (Told t) s d h = no_true (sym h)
+  in_time Closed s d h = no_true (sym h)
 
   each : (s : Moment) (d : List ℕ) → left (deliverOf b rom s d) ≡ fed b rom s d
-  each s d = by-stage s.replay.stage s d (λ h. told-stays b rom s d h)
+  each s d = by_stage s.replay.stage s d (λ h. told_stays b rom s d h)
 
-  in-turn : (s : Moment) (ds : List (List ℕ)) → deliveries b rom s ds ≡ fed b rom s (joined ds)
+  in_turn : (s : Moment) (ds : List (List ℕ)) → deliveries b rom s ds ≡ fed b rom s (joined ds)
   unfolding deliveries joined fed
-  in-turn s [] = refl
-  in-turn s (d ∷ ds) = ap (λ (t : Moment). deliveries b rom t ds) (each s d) ∙ (in-turn (fed b rom s d) ds ∙ sym (fed-both s d (joined ds)))
+  in_turn s [] = refl
+  in_turn s (d ∷ ds) = ap (λ (t : Moment). deliveries b rom t ds) (each s d) ∙ (in_turn (fed b rom s d) ds ∙ sym (fed_both s d (joined ds)))
 
   pub cuts : (ram : List ℕ) (r : Registers) (ds : List (List ℕ)) → closed (deliveries b rom (moment (begun b rom ram r) ram) ds) ≡ replay_of b rom ram r (joined ds)
   unfolding replay_of
-  cuts ram r ds = ap (λ (s : Moment). closed s) (in-turn (moment (begun b rom ram r) ram) ds)
+  cuts ram r ds = ap (λ (s : Moment). closed s) (in_turn (moment (begun b rom ram r) ram) ds)
 
 -- a second end is 20 and changes nothing
 pub second_end : (k : Standing) → ended_of (ended_of k).replay ≡ ended (ended_of k).replay (Halted ReplayEnded)
@@ -67,6 +67,6 @@ second_end k = refl
 
 -- an end after a difference or a refusal repeats its report, and a delivery after it is 20 and changes nothing
 module _ (b : Board) (rom : List ℕ) (s : Moment) (d : List ℕ) where
-  pub after-end : deliverOf b rom (moment (ended_of s.replay).replay s.mem) d ≡ arrived (delivered (ended_of s.replay).replay (Final (Halted ReplayEnded))) s.mem
+  pub after_end : deliverOf b rom (moment (ended_of s.replay).replay s.mem) d ≡ arrived (delivered (ended_of s.replay).replay (Final (Halted ReplayEnded))) s.mem
   unfolding ended_of stageArrived
-  after-end = refl
+  after_end = refl

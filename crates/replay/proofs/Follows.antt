@@ -17,7 +17,7 @@ use Rattle.memory.specs.declared.Board.{Board}
 use Rattle.machine.specs.Machine.{Steps, none, more}
 use Rattle.step.specs.Step.{After, after, answered, good_start, step_of}
 use Rattle.step.specs.Processor.{State, processor}
-use Rattle.step.proofs.Laws.{step-refused, step-states}
+use Rattle.step.proofs.Laws.{step_refused, step_states}
 use Rattle.replay.specs.declared.Part.{Part}
 use Rattle.replay.specs.declared.Report.{Report}
 use Rattle.replay.specs.declared.Report.TheVariants.{Differs, Halted}
@@ -27,7 +27,7 @@ use Rattle.replay.specs.declared.Standing.{Standing}
 use Rattle.replay.specs.Replay as d
 use Rattle.replay.specs.Replay.{Moment, moment, nothing, longer, grown, standing, staged, begins, went, taken, compared, held, first_of, stageTaken, fed, begun, ended_of, replay_of}
 use Rattle.replay.specs.Followed.{state, Any, Describes, Followed}
-use Rattle.replay.proofs.Bytes.{told-stays}
+use Rattle.replay.proofs.Bytes.{told_stays}
 use Rattle.replay.proofs.Records.{whole_of, eleven}
 
 abbrev pub Small : List ℕ → Type 0
@@ -49,13 +49,13 @@ module _ (b : Board) (rom : List ℕ) where
   -- a moment with the registers, counts and memory of another
   record Same (k : Standing) (ram : List ℕ) (a : Moment) : Type 0 where
     regs_same : a.replay.regs ≡ k.regs
-    steps-same : a.replay.steps ≡ k.steps
-    states-same : a.replay.states ≡ k.states
-    mem-same : a.mem ≡ ram
+    steps_same : a.replay.steps ≡ k.steps
+    states_same : a.replay.states ≡ k.states
+    mem_same : a.mem ≡ ram
 
   told_same : (k : Standing) (ram : List ℕ) (t : Report) (xs : List ℕ) → Same k ram (fed b rom (moment (staged k (Told t)) ram) xs)
   told_same k ram t xs =
-      rw (told-stays b rom (moment (staged k (Told t)) ram) xs refl) (record { regs_same = refl; steps-same = refl; states-same = refl; mem-same = refl })
+      rw (told_stays b rom (moment (staged k (Told t)) ram) xs refl) (record { regs_same = refl; steps_same = refl; states_same = refl; mem_same = refl })
 
   -- the first byte beyond 1,000,000 steps
   over : (k : Standing) (ram : List ℕ) (x : ℕ) (xs : List ℕ) → leb 1000000 k.steps ≡ true → Same k ram (fed b rom (moment (staged k (Records nothing)) ram) (x ∷ xs))
@@ -77,7 +77,7 @@ module _ (b : Board) (rom : List ℕ) where
 
   short : (p : Part) (xs : List ℕ) (k : Standing) (ram : List ℕ) → p.count + length xs ≤ 10 → Same k ram (fed b rom (moment (staged k (Records p)) ram) xs)
   unfolding fed
-  short p [] k ram l = record { regs_same = refl; steps-same = refl; states-same = refl; mem-same = refl }
+  short p [] k ram l = record { regs_same = refl; steps_same = refl; states_same = refl; mem_same = refl }
   short p (x ∷ xs) k ram l =
       let n = grown_count p x in
       let m : (grown p x).count + length xs ≤ 10 = omega arith in
@@ -99,9 +99,9 @@ module _ (b : Board) (rom : List ℕ) where
       record {
         c = 0;
         m = 0;
-        count = omega (arith, e.steps-same);
-        sum = omega (arith, e.states-same);
-        led = rw (e.regs_same, e.mem-same) none;
+        count = omega (arith, e.steps_same);
+        sum = omega (arith, e.states_same);
+        led = rw (e.regs_same, e.mem_same) none;
         each = λ i n t l w. absurd (omega arith);
       }
 
@@ -138,14 +138,14 @@ module _ (b : Board) (rom : List ℕ) where
     abbrev on : Standing
     on = standing did.answer.regs (d.more k.steps) (k.states % 2 ^ 56 + did.answer.states) (Records nothing)
 
-    on-steps : on.steps ≡ k.steps + 1
-    on-steps = omega arith
+    on_steps : on.steps ≡ k.steps + 1
+    on_steps = omega arith
 
-    on-states : on.states ≡ k.states + did.answer.states
-    on-states = omega arith
+    on_states : on.states ≡ k.states + did.answer.states
+    on_states = omega arith
 
-    on-sum : on.states ≤ on.steps * 32
-    on-sum = omega (arith, step-states k.regs b rom ram, on-steps, on-states)
+    on_sum : on.states ≤ on.steps * 32
+    on_sum = omega (arith, step_states k.regs b rom ram, on_steps, on_states)
 
     module _ (h xs : List ℕ) (described : Describes (take 11 h) k.regs k.states) (tail : (i : ℕ) → drop ((i + 1) * 11) h ≡ drop (i * 11) xs)
         (rest : From (state did.answer.regs did.mem) on.steps on.states xs (fed b rom (moment on did.mem) xs)) where
@@ -154,10 +154,10 @@ module _ (b : Board) (rom : List ℕ) where
       stepped Done e =
           let does : did ≡ after (answered did.answer.regs did.answer.states Done) did.mem = ap (λ (o : Outcome). after (answered did.answer.regs did.answer.states o) did.mem) e in
           let to : List ℕ → Moment = λ l. fed b rom (moment on did.mem) l in
-          let counted = subst (λ (n : ℕ). From (state did.answer.regs did.mem) n (k.states + did.answer.states) xs (to xs)) on-steps (subst (λ (m : ℕ). From (state did.answer.regs did.mem) on.steps m xs (to xs)) on-states rest) in
+          let counted = subst (λ (n : ℕ). From (state did.answer.regs did.mem) n (k.states + did.answer.states) xs (to xs)) on_steps (subst (λ (m : ℕ). From (state did.answer.regs did.mem) on.steps m xs (to xs)) on_states rest) in
           one_more (state k.regs ram) (state did.answer.regs did.mem) did.answer.states k.steps k.states h xs does described tail _ counted
       stepped (Refused f) e =
-          let z = step-refused k.regs b rom ram f e in
+          let z = step_refused k.regs b rom ram f e in
           let p : did.answer.regs ≡ k.regs = ap (λ (a : After). a.answer.regs) z in
           let q : did.mem ≡ ram = ap (λ (a : After). a.mem) z in
           rw (p, q) (at_once k ram h _ (told_same k ram (Halted f) xs))
@@ -189,22 +189,22 @@ module _ (b : Board) (rom : List ℕ) where
     differs : (t : Report) → From (state k.regs ram) k.steps k.states bytes (fed b rom (moment (staged k (Told t)) ram) xs)
     differs t = at_once k ram bytes _ (told_same k ram t xs)
 
-    compared-by : p.size ≡ 9 → (t : Bool) → eqb p.pc k.regs.pc ≡ t → (u : Bool) → eqb p.condition (byte_of k.regs.condition) ≡ u → (v : Bool) → eqb p.states k.states ≡ v
+    compared_by : p.size ≡ 9 → (t : Bool) → eqb p.pc k.regs.pc ≡ t → (u : Bool) → eqb p.condition (byte_of k.regs.condition) ≡ u → (v : Bool) → eqb p.states k.states ≡ v
         → From (state k.regs ram) k.steps k.states bytes (fed b rom (compared b rom p k ram) xs)
     unfolding compared taken
-    compared-by n false e u f v g = rw e (differs _)
-    compared-by n true e false f v g = rw (e, f) (differs _)
-    compared-by n true e true f false g = rw (e, f, g) (differs _)
-    compared-by n true e true f true g =
+    compared_by n false e u f v g = rw e (differs _)
+    compared_by n true e false f v g = rw (e, f) (differs _)
+    compared_by n true e true f false g = rw (e, f, g) (differs _)
+    compared_by n true e true f true g =
         rw (e, f, g) (stepped k ram few sum bytes xs (describes n (eqb-true _ _ e) (eqb-true _ _ f) (eqb-true _ _ g)) tail rest _ refl)
 
     sized : (t : Bool) → eqb p.size 9 ≡ t
         → From (state k.regs ram) k.steps k.states bytes (cond t (fed b rom (compared b rom p k ram) xs) (moment (staged k (Told (Halted (BadLength (begins k.steps))))) ram))
-    sized true e = compared-by (eqb-true _ _ e) _ refl _ refl _ refl
-    sized false e = at_once k ram bytes _ (record { regs_same = refl; steps-same = refl; states-same = refl; mem-same = refl })
+    sized true e = compared_by (eqb-true _ _ e) _ refl _ refl _ refl
+    sized false e = at_once k ram bytes _ (record { regs_same = refl; steps_same = refl; states_same = refl; mem_same = refl })
 
-    one-record : From (state k.regs ram) k.steps k.states bytes (fed b rom (moment (staged k (Records nothing)) ram) bytes)
-    one-record = rw (eleven b rom ram k few x0 x1 x2 x3 x4 x5 x6 x7 x8 x9 x10 xs) (sized _ refl)
+    one_record : From (state k.regs ram) k.steps k.states bytes (fed b rom (moment (staged k (Records nothing)) ram) bytes)
+    one_record = rw (eleven b rom ram k few x0 x1 x2 x3 x4 x5 x6 x7 x8 x9 x10 xs) (sized _ refl)
 
   -- ---- all of them
 
@@ -213,7 +213,7 @@ module _ (b : Board) (rom : List ℕ) where
       → ((few : k.steps < 1000000)
       → From (state (did k ram few sum).answer.regs (did k ram few sum).mem) (on k ram few sum).steps (on k ram few sum).states xs (fed b rom (moment (on k ram few sum) (did k ram few sum).mem) xs))
       → (t : Bool) → ltb k.steps 1000000 ≡ t → From (state k.regs ram) k.steps k.states (x0 ∷ x1 ∷ x2 ∷ x3 ∷ x4 ∷ x5 ∷ x6 ∷ x7 ∷ x8 ∷ x9 ∷ x10 ∷ xs) (fed b rom (moment (staged k (Records nothing)) ram) (x0 ∷ x1 ∷ x2 ∷ x3 ∷ x4 ∷ x5 ∷ x6 ∷ x7 ∷ x8 ∷ x9 ∷ x10 ∷ xs))
-  within k ram sum x0 x1 x2 x3 x4 x5 x6 x7 x8 x9 x10 xs w rest true e = let few = ltb-true _ _ e in one-record k ram few sum x0 x1 x2 x3 x4 x5 x6 x7 x8 x9 x10 xs w (rest few)
+  within k ram sum x0 x1 x2 x3 x4 x5 x6 x7 x8 x9 x10 xs w rest true e = let few = ltb-true _ _ e in one_record k ram few sum x0 x1 x2 x3 x4 x5 x6 x7 x8 x9 x10 xs w (rest few)
   within k ram sum x0 x1 x2 x3 x4 x5 x6 x7 x8 x9 x10 xs w rest false e = at_once k ram _ _ (over k ram x0 _ (le-leb 1000000 k.steps (ltb-false k.steps 1000000 e)))
 
   from : (xs : List ℕ) (k : Standing) (ram : List ℕ) → k.states ≤ k.steps * 32 → Small xs
@@ -231,7 +231,7 @@ module _ (b : Board) (rom : List ℕ) where
   from (x0 ∷ x1 ∷ x2 ∷ x3 ∷ x4 ∷ x5 ∷ x6 ∷ x7 ∷ x8 ∷ x9 ∷ []) k ram sum w = at_once k ram _ _ (short nothing _ k ram (omega arith))
   from (x0 ∷ x1 ∷ x2 ∷ x3 ∷ x4 ∷ x5 ∷ x6 ∷ x7 ∷ x8 ∷ x9 ∷ x10 ∷ xs) k ram sum w =
       within k ram sum x0 x1 x2 x3 x4 x5 x6 x7 x8 x9 x10 xs w
-      (λ few. from xs (on k ram few sum) (did k ram few sum).mem (on-sum k ram few sum) (λ i. w (suc (suc (suc (suc (suc (suc (suc (suc (suc (suc (suc i)))))))))))))
+      (λ few. from xs (on k ram few sum) (did k ram few sum).mem (on_sum k ram few sum) (λ i. w (suc (suc (suc (suc (suc (suc (suc (suc (suc (suc (suc i)))))))))))))
       _
       refl
 
@@ -243,8 +243,8 @@ module _ (b : Board) (rom ram : List ℕ) (r : Registers) where
   unfolding ended_of
   idle file g a e =
       record {
-        led = rw (e.steps-same, e.states-same, e.regs_same, e.mem-same) none;
-        each = λ i k s l w. absurd (omega (arith, e.steps-same));
+        led = rw (e.steps_same, e.states_same, e.regs_same, e.mem_same) none;
+        each = λ i k s l w. absurd (omega (arith, e.steps_same));
       }
 
   recorded : (x : ℕ) (xs : List ℕ) (a : Moment) → From b rom (state r ram) 0 0 xs a → Followed b rom ram r (x ∷ xs) (d.closed a)
@@ -265,12 +265,12 @@ module _ (b : Board) (rom ram : List ℕ) (r : Registers) where
   started : (file : List ℕ) → Small file → (t : Bool)
       → Followed b rom ram r file (d.closed (fed b rom (moment (standing r 0 0 (cond t Version (Told (Halted BadBoard)))) ram) file))
   unfolding fed stageTaken first_of
-  started [] w true = idle [] Version (moment (standing r 0 0 Version) ram) (record { regs_same = refl; steps-same = refl; states-same = refl; mem-same = refl })
+  started [] w true = idle [] Version (moment (standing r 0 0 Version) ram) (record { regs_same = refl; steps_same = refl; states_same = refl; mem_same = refl })
   started (x ∷ xs) w true = versioned x xs (λ i. w (suc i)) (eqb x 1)
   started file w false = idle file Version _ (told_same b rom (standing r 0 0 Version) ram (Halted BadBoard) file)
 
   -- for the reader: with c records agreed, c steps with the states answered lead from the start to the registers and memory answered, and each of the records
   -- describes the moment before its step
-  pub replayed-steps : (file : List ℕ) → Small file → Followed b rom ram r file (replay_of b rom ram r file)
+  pub replayed_steps : (file : List ℕ) → Small file → Followed b rom ram r file (replay_of b rom ram r file)
   unfolding replay_of begun
-  replayed-steps file w = started file w (good_start b rom ram r)
+  replayed_steps file w = started file w (good_start b rom ram r)

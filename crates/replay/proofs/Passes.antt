@@ -15,7 +15,7 @@ use Rattle.registers.specs.Condition.{byte_of}
 use Rattle.registers.specs.declared.Registers.{Registers}
 use Rattle.memory.specs.declared.Board.{Board}
 use Rattle.step.specs.Step.{After, good_start, step_of}
-use Rattle.step.proofs.Laws.{step-refused, step-states}
+use Rattle.step.proofs.Laws.{step_refused, step_states}
 use Rattle.run.specs.Run.{Ran, ran, told}
 use Rattle.run.specs.MirrorAlong.{strays_of, alongFrom, start_of, fewer_of, along_of, differs_at}
 use Rattle.run.specs.declared.Ending.{Ending}
@@ -142,7 +142,7 @@ module _ (b : Board) (rom xs : List ℕ) where
     turn n ram r steps states few long small f false e true g o d = rw (e, g) (here (suc n) ram r steps states AtStop)
     turn n ram r steps states few long small f false e false g Done d = rw (e, g, d) (through ram r steps states few long small g n (alongFrom b rom 1 xs n (step_of b rom ram r).mem (step_of b rom ram r).answer.regs (steps + 1) (states + (step_of b rom ram r).answer.states)) d f)
     turn n ram r steps states few long small f false e false g (Refused x) d =
-        let m : (step_of b rom ram r).mem ≡ ram = ap (λ (a : After). a.mem) (step-refused r b rom ram x d) in
+        let m : (step_of b rom ram r).mem ≡ ram = ap (λ (a : After). a.mem) (step_refused r b rom ram x d) in
         rw (e, g, d, m) (here (suc n) ram r steps states (Halted x))
 
     last : (ram : List ℕ) (r : Registers) (steps states : ℕ) (t : Bool)
@@ -155,7 +155,7 @@ module _ (b : Board) (rom xs : List ℕ) where
     unfolding alongFrom
     beside zero ram r steps states few long small = last ram r steps states (eqb r.pc 1)
     beside (suc n) ram r steps states few long small =
-        let s = step-states r b rom ram in
+        let s = step_states r b rom ram in
         turn n ram r steps states (omega arith) (omega arith) (omega arith)
         (beside n (step_of b rom ram r).mem (step_of b rom ram r).answer.regs (steps + 1) (states + (step_of b rom ram r).answer.states) (omega arith) (omega arith) (omega (arith, s)))
         _
@@ -199,11 +199,11 @@ module _ (b : Board) (rom xs : List ℕ) (k : Standing) (ram : List ℕ) (few : 
   begun =
       started b rom xs k.steps ram k.regs k.states most (omega (arith, fits (length xs / 11) (1000000 - k.steps))) (counted (length xs) (1000000 - k.steps)) small _ refl
 
-  pub passed-steps : run-beside.answer.steps ≤ 1000000 - k.steps
-  passed-steps = omega (arith, begun.1, fits (length xs / 11) (1000000 - k.steps))
+  pub passed_steps : run-beside.answer.steps ≤ 1000000 - k.steps
+  passed_steps = omega (arith, begun.1, fits (length xs / 11) (1000000 - k.steps))
 
-  pub passed-bytes : run-beside.answer.steps * 11 ≤ length xs
-  passed-bytes = omega (arith, begun.1, counted (length xs) (1000000 - k.steps))
+  pub passed_bytes : run-beside.answer.steps * 11 ≤ length xs
+  passed_bytes = omega (arith, begun.1, counted (length xs) (1000000 - k.steps))
 
   pub passes : fresh_of k.stage ≡ true → fed b rom (moment k ram) xs ≡ fed b rom (passed_of b rom k ram xs) (drop (run-beside.answer.steps * 11) xs)
   passes fresh =

@@ -17,7 +17,7 @@ use Rattle.replay.specs.declared.Stage.{Stage}
 use Rattle.replay.specs.declared.Stage.TheVariants.{Version, Records, Told, Closed}
 use Rattle.replay.specs.declared.Standing.{Standing}
 use Rattle.replay.specs.Replay.{Moment, moment, part, nothing, longer, grown, standing, staged, begins, went, taken, compared, held, stageTaken, fed}
-use Rattle.replay.proofs.Bytes.{told-stays}
+use Rattle.replay.proofs.Bytes.{told_stays}
 
 -- what is compared, and the step after it, don't look at the stage
 went_same : (o : Outcome) (s : After) (k : Standing) (g : Stage) → went o s (staged k g) ≡ went o s k
@@ -56,12 +56,12 @@ module _ (b : Board) (rom ram : List ℕ) (k : Standing) (small : k.steps < 1000
   nine xs = ap (λ (m : Moment). fed b rom m xs) (compared_same b rom whole k (Records (part 10 two.size whole.pc x6 (longer (longer (longer 0 x7) x8) x9))) ram)
 
   -- 18 after two bytes, whatever follows; else the record is compared
-  record-by : (xs : List ℕ) (t : Bool) → eqb two.size 9 ≡ t
+  record_by : (xs : List ℕ) (t : Bool) → eqb two.size 9 ≡ t
       → fed b rom at-record (x0 ∷ x1 ∷ x2 ∷ x3 ∷ x4 ∷ x5 ∷ x6 ∷ x7 ∷ x8 ∷ x9 ∷ x10 ∷ xs)
       ≡ cond t (fed b rom (compared b rom whole k ram) xs) (moment (staged k (Told (Halted (BadLength (begins k.steps))))) ram)
-  record-by xs true e = lengths _ ∙ rw e (nine xs)
-  record-by xs false e = lengths _ ∙ rw e (told-stays b rom _ _ refl)
+  record_by xs true e = lengths _ ∙ rw e (nine xs)
+  record_by xs false e = lengths _ ∙ rw e (told_stays b rom _ _ refl)
 
   pub eleven : (xs : List ℕ) → fed b rom at-record (x0 ∷ x1 ∷ x2 ∷ x3 ∷ x4 ∷ x5 ∷ x6 ∷ x7 ∷ x8 ∷ x9 ∷ x10 ∷ xs)
       ≡ cond (eqb two.size 9) (fed b rom (compared b rom whole k ram) xs) (moment (staged k (Told (Halted (BadLength (begins k.steps))))) ram)
-  eleven xs = record-by xs _ refl
+  eleven xs = record_by xs _ refl

@@ -49,38 +49,38 @@ stored Stored = true
 stored (NotStored f) = false
 
 module _ (r : Registers) (b : Board) (rom ram : List ℕ) where
-  put-by : (a x : ℕ) (p q : Bool) → inside b.base (length ram) (even_address a) 2 ≡ p → inside b.base (length ram) (second_address a) 2 ≡ q
+  put_by : (a x : ℕ) (p q : Bool) → inside b.base (length ram) (even_address a) 2 ≡ p → inside b.base (length ram) (second_address a) 2 ≡ q
       → stored (write_of Long b ram a x).put ≡ p && q
   unfolding write_of write_long written both
-  put-by a x true true e h = rw (e, h)
-  put-by a x true false e h = rw (e, h)
-  put-by a x false q e h = rw e
+  put_by a x true true e h = rw (e, h)
+  put_by a x true false e h = rw (e, h)
+  put_by a x false q e h = rw e
 
   put_is : (a x : ℕ) → stored (write_of Long b ram a x).put ≡ room_at b.base (length ram) a
   unfolding room_at
-  put_is a x = put-by a x _ _ refl refl
+  put_is a x = put_by a x _ _ refl refl
 
   kept_by : (q : Registers) (p : Put) → done_of (stored_of p r q).outcome ≡ stored p
   unfolding stored_of
   kept_by q Stored = refl
   kept_by q (NotStored f) = refl
 
-  push-is : (next : ℕ) → done_of (push_of next r b ram).effect.outcome ≡ room_at b.base (length ram) (below_of r)
+  push_is : (next : ℕ) → done_of (push_of next r b ram).effect.outcome ≡ room_at b.base (length ram) (below_of r)
   unfolding push_of
-  push-is next = kept_by _ _ ∙ put_is (below_of r) next
+  push_is next = kept_by _ _ ∙ put_is (below_of r) next
 
   -- ---- the target
 
-  aims-is : (t : Target) → aims t b rom ram ≡ was_read (aim_of r b rom ram t)
+  aims_is : (t : Target) → aims t b rom ram ≡ was_read (aim_of r b rom ram t)
   unfolding aims aim_of
-  aims-is (ByReg e) = refl
-  aims-is (Direct a) = refl
-  aims-is (Vector a) = refl
+  aims_is (ByReg e) = refl
+  aims_is (Direct a) = refl
+  aims_is (Vector a) = refl
 
-  finish-is : (o : Outcome) (q : Registers) (p n : ℕ) → (finish_of o r q p n).outcome ≡ o
+  finish_is : (o : Outcome) (q : Registers) (p n : ℕ) → (finish_of o r q p n).outcome ≡ o
   unfolding finish_of
-  finish-is Done q p n = refl
-  finish-is (Refused f) q p n = refl
+  finish_is Done q p n = refl
+  finish_is (Refused f) q p n = refl
 
   -- ---- what calls and returns do
 
@@ -121,7 +121,7 @@ module _ (r : Registers) (b : Board) (rom ram : List ℕ) where
   carried : (g : Got) (i : Instruction) (next : ℕ) → effect_of next r b rom ram i ≡ push_of next r b ram
       → done_of (carry_of g i next r b rom ram).answer.outcome ≡ was_read g && room_at b.base (length ram) (below_of r)
   unfolding carry_of
-  carried (Value p) i next e = ap done_of (finish-is _ _ _ _ ∙ ap (λ (s : Stepped). s.effect.outcome) e) ∙ push-is next
+  carried (Value p) i next e = ap done_of (finish_is _ _ _ _ ∙ ap (λ (s : Stepped). s.effect.outcome) e) ∙ push_is next
   carried (NotRead f) i next e = refl
 
   call_by : (g : Goes) (i : Instruction) (next : ℕ) → Calling g → EffectIs next g (effect_of next r b rom ram i)
@@ -131,7 +131,7 @@ module _ (r : Registers) (b : Board) (rom ram : List ℕ) where
   call_by (Branches d reach) i next c e = absurd c
   call_by (Jumps t) i next c e = absurd c
   call_by (CallsNear reach) i next c e = carried _ i next e
-  call_by (Calls t) i next c e = carried _ i next e ∙ ap (λ (x : Bool). x && room_at b.base (length ram) (below_of r)) (sym (aims-is t))
+  call_by (Calls t) i next c e = carried _ i next e ∙ ap (λ (x : Bool). x && room_at b.base (length ram) (below_of r)) (sym (aims_is t))
   call_by Returns i next c e = absurd c
 
   back_by : (g : Got) (i : Instruction) (next : ℕ) → effect_of next r b rom ram i ≡ stepped (did (popped_of r)) ram → (carry_of g i next r b rom ram).mem ≡ ram
@@ -154,11 +154,11 @@ module _ (r : Registers) (b : Board) (rom ram : List ℕ) where
     obeyed i n d = let l : ltb r.pc (length rom) ≡ true = within i n d _ refl in rw (good, l, d)
 
     module _ (i : Instruction) (n : ℕ) (d : decode_of r.pc (drop r.pc rom) ≡ Code i n) where
-      pub call-done : Calling (goes_of i) → done_of (step_of b rom ram r).answer.outcome ≡ completes_in (goes_of i) r b rom ram
-      call-done c = rw (obeyed i n d) (call_by (goes_of i) i (next_of r.pc n) c (effect_is (next_of r.pc n) i))
+      pub call_done : Calling (goes_of i) → done_of (step_of b rom ram r).answer.outcome ≡ completes_in (goes_of i) r b rom ram
+      call_done c = rw (obeyed i n d) (call_by (goes_of i) i (next_of r.pc n) c (effect_is (next_of r.pc n) i))
 
-      pub return-writes-nothing : goes_of i ≡ Returns → (step_of b rom ram r).mem ≡ ram
-      return-writes-nothing h = rw (obeyed i n d) (back_by _ i (next_of r.pc n) (rw h at (effect_is (next_of r.pc n) i)))
+      pub return_writes_nothing : goes_of i ≡ Returns → (step_of b rom ram r).mem ≡ ram
+      return_writes_nothing h = rw (obeyed i n d) (back_by _ i (next_of r.pc n) (rw h at (effect_is (next_of r.pc n) i)))
 
     -- where no code stands no step completes
     pub no_step : (f : Refusal) → decode_of r.pc (drop r.pc rom) ≡ NoCode f → (t : Bool) → ltb r.pc (length rom) ≡ t → done_of (step_of b rom ram r).answer.outcome ≡ false

@@ -50,11 +50,11 @@ module _ {kept : List ℕ} {count : ℕ} where
     at_last : (count - 1) % 8 ≡ length ks
     at_last = omega (arith, c.counted, c.most)
 
-    pub last-is : get_or kept ((count - 1) % 8) 0 ≡ k
-    last-is = rw (at_last, c.is) (get_or-set_same (in_order_of ks) (length ks) k 0 (rw eight (omega (arith, c.most))))
+    pub last_is : get_or kept ((count - 1) % 8) 0 ≡ k
+    last_is = rw (at_last, c.is) (get_or-set_same (in_order_of ks) (length ks) k 0 (rw eight (omega (arith, c.most))))
 
-    pub take-off : Carries (set kept ((count - 1) % 8) 0) (count - 1) ks
-    take-off =
+    pub take_off : Carries (set kept ((count - 1) % 8) 0) (count - 1) ks
+    take_off =
         record { is = rw (at_last, c.is) (taken_off k ks); counted = omega (arith, c.counted); most = omega (arith, c.most) }
 
     pub some : count ≡ 0 → ⊥

@@ -28,13 +28,13 @@ carried_told : (r : Registers) {kept : List ℕ} {count : ℕ} {ks : List ℕ} (
 carried_told r steps states why c = cc (c.is, c.counted)
 
 module _ (b : Board) (rom : List ℕ) (stop : ℕ) (ram : List ℕ) (r : Registers) (ks : List ℕ) (steps states : ℕ) (kept : List ℕ) (count : ℕ) (c : Carries kept count ks) where
-  at-stop : (n : ℕ) → r.pc ≡ stop → routineFrom b rom stop n ram r ks steps states ≡ routined (told r ks steps states AtStop) ram
+  at_stop : (n : ℕ) → r.pc ≡ stop → routineFrom b rom stop n ram r ks steps states ≡ routined (told r ks steps states AtStop) ram
   unfolding routineFrom
-  at-stop zero e = rw (eq-eqb _ _ e)
-  at-stop (suc n) e = rw (eq-eqb _ _ e)
+  at_stop zero e = rw (eq-eqb _ _ e)
+  at_stop (suc n) e = rw (eq-eqb _ _ e)
 
   pub stops : (n : ℕ) → r.pc ≡ stop → routineFrom b rom stop n ram r ks steps states ≡ routined (told_in r kept count steps states AtStop) ram
-  stops n e = at-stop n e ∙ ap (λ (a : RoutineAnswer). routined a ram) (carried_told r steps states AtStop c)
+  stops n e = at_stop n e ∙ ap (λ (a : RoutineAnswer). routined a ram) (carried_told r steps states AtStop c)
 
   none_left : (r.pc ≡ stop → ⊥) → (n : ℕ) → n ≡ zero → routineFrom b rom stop n ram r ks steps states ≡ routined (told r ks steps states Spent) ram
   unfolding routineFrom
@@ -50,15 +50,15 @@ module _ (b : Board) (rom : List ℕ) (stop : ℕ) (ram : List ℕ) (r : Registe
     pub xs : List ℕ
     pub carries : Carries t.kept t.count xs
     pub one : t.steps ≡ 1
-    pub length-stays : length m ≡ length ram
-    pub still-good : good_board b (length rom) (length m) && good_pc t.regs.pc ≡ true
+    pub length_stays : length m ≡ length ram
+    pub still_good : good_board b (length rom) (length m) && good_pc t.regs.pc ≡ true
     pub goes : routineFrom b rom stop (budget - steps) ram r ks steps states
         ≡ routineFrom b rom stop (budget - (steps + t.steps)) m t.regs xs (steps + t.steps) (states + t.states)
 
   -- what the last one leaves
   pub record Last (budget : ℕ) (t : Turned) (m : List ℕ) (why : Ending) : Type 0 where
-    pub length-kept : length m ≡ length ram
-    pub told-as : routineFrom b rom stop (budget - steps) ram r ks steps states
+    pub length_kept : length m ≡ length ram
+    pub told_as : routineFrom b rom stop (budget - steps) ram r ks steps states
         ≡ routined (told_in t.regs t.kept t.count (steps + t.steps) (states + t.states) why) m
 
   module _ (budget : ℕ) (le : steps ≤ budget) (ne : steps ≡ budget → ⊥) where
@@ -70,7 +70,7 @@ module _ (b : Board) (rom : List ℕ) (stop : ℕ) (ram : List ℕ) (r : Registe
     few (ends t m xs why k s g l e) = s
 
     again : {x : Left} → View b rom stop (budget - (steps + 1)) ram r ks steps states x → x.turned.going ≡ On → Again budget x.turned x.mem
-    again (goes_on t m xs k s g l q e) h = record { xs = xs; carries = k; one = s; length-stays = l; still-good = q; goes = rw (fewer, s) e }
+    again (goes_on t m xs k s g l q e) h = record { xs = xs; carries = k; one = s; length_stays = l; still_good = q; goes = rw (fewer, s) e }
     again (ends t m xs why k s g l e) h = let z : ◌≡◌ {A = ℕ} 0 1 = cc in absurd (omega arith)
 
     last : {x : Left} (w : Ending) → View b rom stop (budget - (steps + 1)) ram r ks steps states x → x.turned.going ≡ Ends w
@@ -79,19 +79,19 @@ module _ (b : Board) (rom : List ℕ) (stop : ℕ) (ram : List ℕ) (r : Registe
     last w (ends t m xs why k s g l e) h =
         let same : why ≡ w = cc in
         record {
-          length-kept = l;
-          told-as = rw (fewer, ← same) (e ∙ ap (λ (a : RoutineAnswer). routined a m) (carried_told t.regs (steps + t.steps) (states + t.states) why k));
+          length_kept = l;
+          told_as = rw (fewer, ← same) (e ∙ ap (λ (a : RoutineAnswer). routined a m) (carried_told t.regs (steps + t.steps) (states + t.states) why k));
         }
 
     module _ (good : good_board b (length rom) (length ram) && good_pc r.pc ≡ true) (away : r.pc ≡ stop → ⊥) (t : Turned) (m : List ℕ) (is : left t m ≡ turn_in b rom ram r kept count) where
       seen : View b rom stop (budget - (steps + 1)) ram r ks steps states (left t m)
       seen = rw is (view b rom stop (budget - (steps + 1)) ram r ks steps states good away kept count c)
 
-      pub few-steps : t.steps ≤ 1
-      few-steps = few seen
+      pub few_steps : t.steps ≤ 1
+      few_steps = few seen
 
-      pub turn-again : t.going ≡ On → Again budget t m
-      turn-again h = again seen h
+      pub turn_again : t.going ≡ On → Again budget t m
+      turn_again h = again seen h
 
       pub turn_last : (w : Ending) → t.going ≡ Ends w → Last budget t m w
       turn_last w h = last w seen h

@@ -26,7 +26,7 @@ use Rattle.machine.specs.Machine.{Machine, Steps, none, more, Leaving, ninth, el
 use Rattle.machine.specs.Keeping.{Keeps, keeps, Moves, went, called, came, home, Ends, at_ninth, at_elsewhere, Home, last, keeping}
 use Rattle.step.specs.Step.{After, after, answered, good_pc, step_of}
 use Rattle.step.specs.Processor.{State, Calling, processor}
-use Rattle.step.proofs.Laws.{step-refused}
+use Rattle.step.proofs.Laws.{step_refused}
 use Rattle.run.specs.Repeated.{state}
 use Rattle.routine.specs.Routine.{Routined, routined, told, in_order_of, Turn, on, goes_home, leaves, pushing, returning, turn_by, turn_of, taken, onward, routineFrom, routine_of}
 use Rattle.routine.specs.Repeated.{Away, Before, RunsTo, stopped, spent, halted, ninth_met, elsewhere_met, returned, Repeated}
@@ -61,11 +61,11 @@ module _ (b : Board) (rom : List ℕ) (stop : ℕ) where
   onwards p d (elsewhere_met st w l e) = elsewhere_met (more p d st) w (omega arith) e
   onwards p d (returned st w l a e) = rw (← add_assoc) (returned (more p d st) w (omega arith) a e)
 
-  home-empty : {x : Keeps P} → Home P x → x.kept ≡ []
-  home-empty (last a) = refl
+  home_empty : {x : Keeps P} → Home P x → x.kept ≡ []
+  home_empty (last a) = refl
 
-  home-returns : {x : Keeps P} → Home P x → P.AtReturn x.state
-  home-returns (last a) = a
+  home_returns : {x : Keeps P} → Home P x → P.AtReturn x.state
+  home_returns (last a) = a
 
   at_once : (left : ℕ) (ram : List ℕ) (r : Registers) (ks : List ℕ) (steps states : ℕ) (why : Ending)
       → RunsTo M stop left (keeps (state r ram) ks) 0 0 (keeps (state r ram) ks) why → From left ram r ks steps states (routined (told r ks steps states why) ram)
@@ -110,7 +110,7 @@ module _ (b : Board) (rom : List ℕ) (stop : ℕ) where
 
       plain : (ks : List ℕ) → ((k : ℕ) → P.Pushes here k → ⊥) → (P.AtReturn here → ⊥) → From (suc n) ram r ks steps states (after_turn ks (on ks))
       unfolding taken
-      plain ks no_push no_return = one_more ks ks _ (λ h. no_return (home-returns h)) (went no_push no_return does) (rest ks)
+      plain ks no_push no_return = one_more ks ks _ (λ h. no_return (home_returns h)) (went no_push no_return does) (rest ks)
 
       module _ (i : Instruction) (l : ℕ) (d : decode_of r.pc (drop r.pc rom) ≡ Code i l) where
         same : (i' : Instruction) (l' : ℕ) → decode_of r.pc (drop r.pc rom) ≡ Code i' l' → goes_of i' ≡ goes_of i
@@ -127,17 +127,17 @@ module _ (b : Board) (rom : List ℕ) (stop : ℕ) where
         unfolding taken
         calls g h q isnt ks true t =
             let q' : Calling (goes_of i) = rw h q in
-            rw t (one_more ks (next_of r.pc l ∷ ks) _ (λ x. no_return g h isnt (home-returns x)) (called (i, l, d, q', refl) (ltb-true _ _ t) does) (rest (next_of r.pc l ∷ ks)))
+            rw t (one_more ks (next_of r.pc l ∷ ks) _ (λ x. no_return g h isnt (home_returns x)) (called (i, l, d, q', refl) (ltb-true _ _ t) does) (rest (next_of r.pc l ∷ ks)))
         calls g h q isnt ks false t =
             let q' : Calling (goes_of i) = rw h q in
             rw t (at_once (suc n) ram r ks steps states Ninth (ninth_met none away (omega arith) (at_ninth (i, l, d, q', refl) (ltb-false _ _ t) does)))
 
-        comes-to : (k : ℕ) (ks : List ℕ) (t : Bool) → goes_of i ≡ Returns → eqb S.answer.regs.pc k ≡ t
+        comes_to : (k : ℕ) (ks : List ℕ) (t : Bool) → goes_of i ≡ Returns → eqb S.answer.regs.pc k ≡ t
             → From (suc n) ram r (k ∷ ks) steps states (after_turn (k ∷ ks) (cond t (on ks) (leaves Elsewhere)))
         unfolding taken
-        comes-to k ks true h t =
-            one_more (k ∷ ks) ks _ (λ x. let e = home-empty x in let z : ◌≡◌ {A = ℕ} 0 1 = cc in omega arith) (came (i, l, d, h) does (eqb-true _ _ t)) (rest ks)
-        comes-to k ks false h t =
+        comes_to k ks true h t =
+            one_more (k ∷ ks) ks _ (λ x. let e = home_empty x in let z : ◌≡◌ {A = ℕ} 0 1 = cc in omega arith) (came (i, l, d, h) does (eqb-true _ _ t)) (rest ks)
+        comes_to k ks false h t =
             at_once (suc n) ram r (k ∷ ks) steps states Elsewhere (elsewhere_met none away (omega arith) (at_elsewhere (i, l, d, h) does (eqb-false _ _ t)))
 
         comes : goes_of i ≡ Returns → (ks : List ℕ) → From (suc n) ram r ks steps states (after_turn ks (returning S.answer.regs.pc ks))
@@ -153,31 +153,31 @@ module _ (b : Board) (rom : List ℕ) (stop : ℕ) where
               sum = omega arith;
               led = returned none away (omega arith) (last (i, l, d, h)) (home (i, l, d, h) does);
             }
-        comes h (k ∷ ks) = comes-to k ks _ h refl
+        comes h (k ∷ ks) = comes_to k ks _ h refl
 
-        by-goes : (g : Goes) → goes_of i ≡ g → (ks : List ℕ) → From (suc n) ram r ks steps states (after_turn ks (turn_by g (next_of r.pc l) ks S.answer.regs.pc))
+        by_goes : (g : Goes) → goes_of i ≡ g → (ks : List ℕ) → From (suc n) ram r ks steps states (after_turn ks (turn_by g (next_of r.pc l) ks S.answer.regs.pc))
         unfolding turn_by
-        by-goes Onward h ks = plain ks (no_push Onward h (λ q. q)) (no_return Onward h (λ e. let z : ◌≡◌ {A = ℕ} 0 1 = cc in omega arith))
-        by-goes (Branches x y) h ks = plain ks (no_push (Branches x y) h (λ q. q)) (no_return (Branches x y) h (λ e. let z : ◌≡◌ {A = ℕ} 0 1 = cc in omega arith))
-        by-goes (Jumps x) h ks = plain ks (no_push (Jumps x) h (λ q. q)) (no_return (Jumps x) h (λ e. let z : ◌≡◌ {A = ℕ} 0 1 = cc in omega arith))
-        by-goes (CallsNear x) h ks = calls (CallsNear x) h tt (λ e. let z : ◌≡◌ {A = ℕ} 0 1 = cc in omega arith) ks _ refl
-        by-goes (Calls x) h ks = calls (Calls x) h tt (λ e. let z : ◌≡◌ {A = ℕ} 0 1 = cc in omega arith) ks _ refl
-        by-goes Returns h ks = comes h ks
+        by_goes Onward h ks = plain ks (no_push Onward h (λ q. q)) (no_return Onward h (λ e. let z : ◌≡◌ {A = ℕ} 0 1 = cc in omega arith))
+        by_goes (Branches x y) h ks = plain ks (no_push (Branches x y) h (λ q. q)) (no_return (Branches x y) h (λ e. let z : ◌≡◌ {A = ℕ} 0 1 = cc in omega arith))
+        by_goes (Jumps x) h ks = plain ks (no_push (Jumps x) h (λ q. q)) (no_return (Jumps x) h (λ e. let z : ◌≡◌ {A = ℕ} 0 1 = cc in omega arith))
+        by_goes (CallsNear x) h ks = calls (CallsNear x) h tt (λ e. let z : ◌≡◌ {A = ℕ} 0 1 = cc in omega arith) ks _ refl
+        by_goes (Calls x) h ks = calls (Calls x) h tt (λ e. let z : ◌≡◌ {A = ℕ} 0 1 = cc in omega arith) ks _ refl
+        by_goes Returns h ks = comes h ks
 
       nothing : (f : Refusal) → decode_of r.pc (drop r.pc rom) ≡ NoCode f → (i : Instruction) (l : ℕ) → decode_of r.pc (drop r.pc rom) ≡ Code i l → ⊥
       nothing f d i l e = let z : ◌≡◌ {A = ℕ} 0 1 = cc in omega arith
 
-      by-decoded : (ks : List ℕ) (x : Decoded) → decode_of r.pc (drop r.pc rom) ≡ x → From (suc n) ram r ks steps states (after_turn ks (turn_of x r.pc ks S.answer.regs.pc))
+      by_decoded : (ks : List ℕ) (x : Decoded) → decode_of r.pc (drop r.pc rom) ≡ x → From (suc n) ram r ks steps states (after_turn ks (turn_of x r.pc ks S.answer.regs.pc))
       unfolding turn_of
-      by-decoded ks (Code i l) d = by-goes i l d (goes_of i) refl ks
-      by-decoded ks (NoCode f) d = plain ks (λ k (i, l, e, q, z). nothing f d i l e) (λ (i, l, e, q). nothing f d i l e)
+      by_decoded ks (Code i l) d = by_goes i l d (goes_of i) refl ks
+      by_decoded ks (NoCode f) d = plain ks (λ k (i, l, e, q, z). nothing f d i l e) (λ (i, l, e, q). nothing f d i l e)
 
     turn : (ks : List ℕ)
         → ((xs : List ℕ) → From n S.mem S.answer.regs xs (steps + 1) (states + S.answer.states) (routineFrom b rom stop n S.mem S.answer.regs xs (steps + 1) (states + S.answer.states)))
         → eqb r.pc stop ≡ false → (x : Outcome) → S.answer.outcome ≡ x → From (suc n) ram r ks steps states (routineFrom b rom stop (suc n) ram r ks steps states)
     unfolding routineFrom onward
-    turn ks rest h Done o = rw (h, o) (by-decoded o rest ks _ refl)
-    turn ks rest h (Refused f) o = rw (h, o) (at_once (suc n) ram r ks steps states (Halted f) (halted none away (omega arith) (step-refused r b rom ram f o)))
+    turn ks rest h Done o = rw (h, o) (by_decoded o rest ks _ refl)
+    turn ks rest h (Refused f) o = rw (h, o) (at_once (suc n) ram r ks steps states (Halted f) (halted none away (omega arith) (step_refused r b rom ram f o)))
 
   start : (left : ℕ) (ram : List ℕ) (r : Registers) (ks : List ℕ) (steps states : ℕ) → eqb r.pc stop ≡ true
       → From left ram r ks steps states (routineFrom b rom stop left ram r ks steps states)
@@ -203,10 +203,10 @@ module _ (b : Board) (rom : List ℕ) (stop : ℕ) where
   from (suc n) ram r ks steps states = middle n ram r ks steps states (from n) _ refl
 
   -- on a right board, from a PC that can be, within the allowed budget
-  pub kept-repeated : (ram : List ℕ) (r : Registers) (budget : ℕ) → good_board b (length rom) (length ram) && good_pc r.pc ≡ true → budget ≤ 1000000
+  pub kept_repeated : (ram : List ℕ) (r : Registers) (budget : ℕ) → good_board b (length rom) (length ram) && good_pc r.pc ≡ true → budget ≤ 1000000
       → Repeated b rom ram r stop budget (routine_of b rom ram r stop budget)
   unfolding routine_of
-  kept-repeated ram r budget good small = rw (le-ltb 1000000 budget small, good) (whole (from budget ram r [] 0 0))
+  kept_repeated ram r budget good small = rw (le-ltb 1000000 budget small, good) (whole (from budget ram r [] 0 0))
     where
       whole : {a : Routined} → From budget ram r [] 0 0 a → Repeated b rom ram r stop budget a
       whole {a} f =

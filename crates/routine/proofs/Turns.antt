@@ -24,15 +24,15 @@ use Rattle.flow.specs.Targets.{next_of}
 use Rattle.decoder.specs.MirrorDecode.{decode_of}
 use Rattle.step.specs.Step.{After, good_pc, step_of}
 use Rattle.step.specs.Processor.{Calling}
-use Rattle.step.proofs.Laws.{Kept, step_is, step-refused, fetch-keeps}
+use Rattle.step.proofs.Laws.{Kept, step_is, step_refused, fetch_keeps}
 use Rattle.routine.specs.Routine.{routined, told, Turn, on, goes_home, leaves, pushing, returning, turn_by, turn_of, taken, onward, routineFrom}
 use Rattle.routine.specs.MirrorTurn.{seen_in, seen_at, completes_in, ninth_in, stays, made, pushed, came_back, returned_to, followed, turned_by, Left, left, turn_in}
 use Rattle.routine.specs.declared.Ending.{Ending}
 use Rattle.routine.specs.declared.Ending.TheVariants.{Halted, Returned, Ninth, Elsewhere}
 use Rattle.routine.specs.declared.Going.TheVariants.{On, Ends}
 use Rattle.routine.specs.declared.Turned.{Turned}
-use Rattle.routine.proofs.Kept.{Carries, carry, last-is, take-off, some}
-use Rattle.routine.proofs.Calls.{done_of, call-done, return-writes-nothing, no_step}
+use Rattle.routine.proofs.Kept.{Carries, carry, last_is, take_off, some}
+use Rattle.routine.proofs.Calls.{done_of, call_done, return_writes_nothing, no_step}
 
 either : (t : Bool) → cond t false false ≡ false
 either true = refl
@@ -78,31 +78,31 @@ module _ (b : Board) (rom : List ℕ) (stop : ℕ) (n : ℕ) (ram : List ℕ) (r
     abbrev stepped : After
     stepped = step_of b rom ram r
 
-    board-good : good_board b (length rom) (length ram) ≡ true
-    board-good = (both (good_board b (length rom) (length ram)) (good_pc r.pc) good).0
+    board_good : good_board b (length rom) (length ram) ≡ true
+    board_good = (both (good_board b (length rom) (length ram)) (good_pc r.pc) good).0
 
-    after-it : stepped.answer.outcome ≡ Done → Kept r b rom ram stepped
-    after-it o =
-        let e = step_is r b rom ram board-good (both (good_board b (length rom) (length ram)) (good_pc r.pc) good).1 in
-        rw e (fetch-keeps r b rom ram (rw e at o))
+    after_it : stepped.answer.outcome ≡ Done → Kept r b rom ram stepped
+    after_it o =
+        let e = step_is r b rom ram board_good (both (good_board b (length rom) (length ram)) (good_pc r.pc) good).1 in
+        rw e (fetch_keeps r b rom ram (rw e at o))
 
     -- ---- the definition, by the step's outcome and the turn
 
-    refused-from : (f : Refusal) → stepped.answer.outcome ≡ Refused f
+    refused_from : (f : Refusal) → stepped.answer.outcome ≡ Refused f
         → routineFrom b rom stop (suc n) ram r ks steps states ≡ routined (told r ks steps states (Halted f)) ram
     unfolding routineFrom onward
-    refused-from f o = rw (ne_eqb _ _ away, o)
+    refused_from f o = rw (ne_eqb _ _ away, o)
 
-    done-from : stepped.answer.outcome ≡ Done → (t : Turn) → turn_of decoded r.pc ks stepped.answer.regs.pc ≡ t
+    done_from : stepped.answer.outcome ≡ Done → (t : Turn) → turn_of decoded r.pc ks stepped.answer.regs.pc ≡ t
         → routineFrom b rom stop (suc n) ram r ks steps states
         ≡ taken t (λ after. routineFrom b rom stop n stepped.mem stepped.answer.regs after (steps + 1) (states + stepped.answer.states))
         (routined (told stepped.answer.regs ks (steps + 1) (states + stepped.answer.states) Returned) stepped.mem)
         (λ why. routined (told r ks steps states why) ram)
     unfolding routineFrom onward
-    done-from o t e = rw (ne_eqb _ _ away, o, e)
+    done_from o t e = rw (ne_eqb _ _ away, o, e)
 
-    kept-good : stepped.answer.outcome ≡ Done → good_board b (length rom) (length stepped.mem) && good_pc stepped.answer.regs.pc ≡ true
-    kept-good o = rw ((after-it o).length-stays, board-good) (after-it o).pc-good
+    kept_good : stepped.answer.outcome ≡ Done → good_board b (length rom) (length stepped.mem) && good_pc stepped.answer.regs.pc ≡ true
+    kept_good o = rw ((after_it o).length_stays, board_good) (after_it o).pc_good
 
     -- ---- a step with which it goes on, and one that is not taken
 
@@ -111,7 +111,7 @@ module _ (b : Board) (rom : List ℕ) (stop : ℕ) (n : ℕ) (ram : List ℕ) (r
         → turn_in b rom ram r kept count ≡ left (made stepped.answer kept' count' On) stepped.mem → View (turn_in b rom ram r kept count)
     unfolding taken
     goes after kept' count' k o t e =
-        rw e (goes_on (made stepped.answer kept' count' On) stepped.mem after k refl refl (after-it o).length-stays (kept-good o) (done-from o (on after) t))
+        rw e (goes_on (made stepped.answer kept' count' On) stepped.mem after k refl refl (after_it o).length_stays (kept_good o) (done_from o (on after) t))
 
     stops : (why : Ending) → routineFrom b rom stop (suc n) ram r ks steps states ≡ routined (told r ks steps states why) ram
         → turn_in b rom ram r kept count ≡ left (stays r kept count why) ram → View (turn_in b rom ram r kept count)
@@ -120,7 +120,7 @@ module _ (b : Board) (rom : List ℕ) (stop : ℕ) (n : ℕ) (ram : List ℕ) (r
     not_taken : (why : Ending) → stepped.answer.outcome ≡ Done → turn_of decoded r.pc ks stepped.answer.regs.pc ≡ leaves why
         → turn_in b rom ram r kept count ≡ left (stays r kept count why) ram → View (turn_in b rom ram r kept count)
     unfolding taken
-    not_taken why o t e = stops why (done-from o (leaves why) t) e
+    not_taken why o t e = stops why (done_from o (leaves why) t) e
 
     -- ---- a completed step, by where its instruction lets PC go
 
@@ -134,14 +134,14 @@ module _ (b : Board) (rom : List ℕ) (stop : ℕ) (n : ℕ) (ram : List ℕ) (r
       unfolding turn_in seen_at seen_in turned_by
       coded g h e = rw (d, h, e, o)
 
-      coded-ninth : (g : Goes) → goes_of i ≡ g → ninth_in g count r b rom ram ≡ true → turn_in b rom ram r kept count ≡ left (stays r kept count Ninth) ram
+      coded_ninth : (g : Goes) → goes_of i ≡ g → ninth_in g count r b rom ram ≡ true → turn_in b rom ram r kept count ≡ left (stays r kept count Ninth) ram
       unfolding turn_in seen_at seen_in
-      coded-ninth g h e = rw (d, h, e)
+      coded_ninth g h e = rw (d, h, e)
 
       completes : (g : Goes) → goes_of i ≡ g → Calling g → completes_in g r b rom ram ≡ true
       completes g h q =
           let q' : Calling (goes_of i) = rw h q in
-          let e : done_of stepped.answer.outcome ≡ completes_in (goes_of i) r b rom ram = call-done r b rom ram good i l d q' in
+          let e : done_of stepped.answer.outcome ≡ completes_in (goes_of i) r b rom ram = call_done r b rom ram good i l d q' in
           sym (rw (h, o) at e)
 
       calls : (g : Goes) → goes_of i ≡ g → Calling g → turn_by g (next_of r.pc l) ks stepped.answer.regs.pc ≡ pushing (next_of r.pc l) ks
@@ -154,12 +154,12 @@ module _ (b : Board) (rom : List ℕ) (stop : ℕ) (n : ℕ) (ram : List ℕ) (r
       calls g h q u v false t =
           let many : 8 ≤ length ks = ltb-false _ _ t in
           not_taken Ninth o (turned g h ∙ (u ∙ rw t))
-          (coded-ninth g h (full count r b rom ram g (omega (arith, c.counted)) ∙ completes g h q))
+          (coded_ninth g h (full count r b rom ram g (omega (arith, c.counted)) ∙ completes g h q))
 
       module _ (h : goes_of i ≡ Returns) where
-        coded-back : turn_in b rom ram r kept count ≡ left (returned_to r kept count stepped.answer) stepped.mem
+        coded_back : turn_in b rom ram r kept count ≡ left (returned_to r kept count stepped.answer) stepped.mem
         unfolding followed completes_in
-        coded-back = coded Returns h (no_call count r b rom ram Returns refl)
+        coded_back = coded Returns h (no_call count r b rom ram Returns refl)
 
         turned_back : turn_of decoded r.pc ks stepped.answer.regs.pc ≡ returning stepped.answer.regs.pc ks
         unfolding turn_by
@@ -169,33 +169,33 @@ module _ (b : Board) (rom : List ℕ) (stop : ℕ) (n : ℕ) (ram : List ℕ) (r
         unfolding returned_to came_back
         come k rest e true t =
             let c' : Carries kept count (k ∷ rest) = rw e at c in
-            goes rest _ _ (take-off c') o (turned_back ∙ rw (e, t)) (coded-back ∙ rw (ne_eqb count 0 (some c'), last-is c', t))
+            goes rest _ _ (take_off c') o (turned_back ∙ rw (e, t)) (coded_back ∙ rw (ne_eqb count 0 (some c'), last_is c', t))
         come k rest e false t =
             let c' : Carries kept count (k ∷ rest) = rw e at c in
             not_taken Elsewhere o (turned_back ∙ rw (e, t))
-            (coded-back ∙ rw (ne_eqb count 0 (some c'), last-is c', t, return-writes-nothing r b rom ram good i l d h))
+            (coded_back ∙ rw (ne_eqb count 0 (some c'), last_is c', t, return_writes_nothing r b rom ram good i l d h))
 
-        go-home : ks ≡ [] → View (turn_in b rom ram r kept count)
+        go_home : ks ≡ [] → View (turn_in b rom ram r kept count)
         unfolding returned_to taken
-        go-home e =
+        go_home e =
             let z : count ≡ 0 = c.counted ∙ ap (λ (x : List ℕ). length x) e in
-            let f = coded-back ∙ ap (λ (x : Bool). left (cond x (made stepped.answer kept count (Ends Returned)) (came_back r kept count stepped.answer)) stepped.mem) (eq-eqb count 0 z) in
+            let f = coded_back ∙ ap (λ (x : Bool). left (cond x (made stepped.answer kept count (Ends Returned)) (came_back r kept count stepped.answer)) stepped.mem) (eq-eqb count 0 z) in
             rw f
-            (ends (made stepped.answer kept count (Ends Returned)) stepped.mem ks Returned c (omega arith) refl (after-it o).length-stays
-            (done-from o goes_home (turned_back ∙ rw e)))
+            (ends (made stepped.answer kept count (Ends Returned)) stepped.mem ks Returned c (omega arith) refl (after_it o).length_stays
+            (done_from o goes_home (turned_back ∙ rw e)))
 
         comes : (xs : List ℕ) → ks ≡ xs → View (turn_in b rom ram r kept count)
-        comes [] e = go-home e
+        comes [] e = go_home e
         comes (k ∷ rest) e = come k rest e _ refl
 
-      by-goes : (g : Goes) → goes_of i ≡ g → View (turn_in b rom ram r kept count)
+      by_goes : (g : Goes) → goes_of i ≡ g → View (turn_in b rom ram r kept count)
       unfolding turn_by followed completes_in
-      by-goes Onward h = goes ks kept count c o (turned Onward h) (coded Onward h (no_call count r b rom ram Onward refl))
-      by-goes (Branches x y) h = goes ks kept count c o (turned (Branches x y) h) (coded (Branches x y) h (no_call count r b rom ram (Branches x y) refl))
-      by-goes (Jumps x) h = goes ks kept count c o (turned (Jumps x) h) (coded (Jumps x) h (no_call count r b rom ram (Jumps x) refl))
-      by-goes (CallsNear x) h = calls (CallsNear x) h tt refl refl _ refl
-      by-goes (Calls x) h = calls (Calls x) h tt refl refl _ refl
-      by-goes Returns h = comes h ks refl
+      by_goes Onward h = goes ks kept count c o (turned Onward h) (coded Onward h (no_call count r b rom ram Onward refl))
+      by_goes (Branches x y) h = goes ks kept count c o (turned (Branches x y) h) (coded (Branches x y) h (no_call count r b rom ram (Branches x y) refl))
+      by_goes (Jumps x) h = goes ks kept count c o (turned (Jumps x) h) (coded (Jumps x) h (no_call count r b rom ram (Jumps x) refl))
+      by_goes (CallsNear x) h = calls (CallsNear x) h tt refl refl _ refl
+      by_goes (Calls x) h = calls (Calls x) h tt refl refl _ refl
+      by_goes Returns h = comes h ks refl
 
     -- ---- a refused step
 
@@ -203,14 +203,14 @@ module _ (b : Board) (rom : List ℕ) (stop : ℕ) (n : ℕ) (ram : List ℕ) (r
         → (t ≡ true → ⊥) → View (turn_in b rom ram r kept count)
     unfolding turn_in turned_by
     refuses f o true e isnt = absurd (isnt refl)
-    refuses f o false e isnt = stops (Halted f) (refused-from f o) (rw (e, o, ap (λ (x : After). x.mem) (step-refused r b rom ram f o)))
+    refuses f o false e isnt = stops (Halted f) (refused_from f o) (rw (e, o, ap (λ (x : After). x.mem) (step_refused r b rom ram f o)))
 
     -- what would complete is not refused
     module _ (f : Refusal) (o : stepped.answer.outcome ≡ Refused f) where
-      refused-call : (i : Instruction) (l : ℕ) → decoded ≡ Code i l → (g : Goes) → goes_of i ≡ g → Calling g → completes_in g r b rom ram ≡ false
-      refused-call i l d g h q =
+      refused_call : (i : Instruction) (l : ℕ) → decoded ≡ Code i l → (g : Goes) → goes_of i ≡ g → Calling g → completes_in g r b rom ram ≡ false
+      refused_call i l d g h q =
           let q' : Calling (goes_of i) = rw h q in
-          let e : done_of stepped.answer.outcome ≡ completes_in (goes_of i) r b rom ram = call-done r b rom ram good i l d q' in
+          let e : done_of stepped.answer.outcome ≡ completes_in (goes_of i) r b rom ram = call_done r b rom ram good i l d q' in
           sym (rw (h, o) at e)
 
       incomplete : (i : Instruction) (l : ℕ) → decoded ≡ Code i l → (g : Goes) → goes_of i ≡ g → completes_in g r b rom ram ≡ false
@@ -218,22 +218,22 @@ module _ (b : Board) (rom : List ℕ) (stop : ℕ) (n : ℕ) (ram : List ℕ) (r
       incomplete i l d Onward h = refl
       incomplete i l d (Branches x y) h = refl
       incomplete i l d (Jumps x) h = refl
-      incomplete i l d (CallsNear x) h = refused-call i l d (CallsNear x) h tt
-      incomplete i l d (Calls x) h = refused-call i l d (Calls x) h tt
+      incomplete i l d (CallsNear x) h = refused_call i l d (CallsNear x) h tt
+      incomplete i l d (Calls x) h = refused_call i l d (Calls x) h tt
       incomplete i l d Returns h = refl
 
-      never-ninth : (x : Decoded) → decoded ≡ x → ninth_in (seen_at rom r.pc).goes count r b rom ram ≡ true → ⊥
+      never_ninth : (x : Decoded) → decoded ≡ x → ninth_in (seen_at rom r.pc).goes count r b rom ram ≡ true → ⊥
       unfolding seen_at seen_in completes_in
-      never-ninth (NoCode g) d e = apart (sym (rw d at e) ∙ no_call count r b rom ram Onward refl)
-      never-ninth (Code i l) d e = apart (sym (rw d at e) ∙ no_call count r b rom ram (goes_of i) (incomplete i l d (goes_of i) refl))
+      never_ninth (NoCode g) d e = apart (sym (rw d at e) ∙ no_call count r b rom ram Onward refl)
+      never_ninth (Code i l) d e = apart (sym (rw d at e) ∙ no_call count r b rom ram (goes_of i) (incomplete i l d (goes_of i) refl))
 
-    by-decoded : stepped.answer.outcome ≡ Done → (x : Decoded) → decoded ≡ x → View (turn_in b rom ram r kept count)
-    by-decoded o (Code i l) d = by-goes i l d o (goes_of i) refl
-    by-decoded o (NoCode f) d = absurd (apart (ap done_of (sym o) ∙ no_step r b rom ram good f d _ refl))
+    by_decoded : stepped.answer.outcome ≡ Done → (x : Decoded) → decoded ≡ x → View (turn_in b rom ram r kept count)
+    by_decoded o (Code i l) d = by_goes i l d o (goes_of i) refl
+    by_decoded o (NoCode f) d = absurd (apart (ap done_of (sym o) ∙ no_step r b rom ram good f d _ refl))
 
     by_outcome : (x : Outcome) → stepped.answer.outcome ≡ x → View (turn_in b rom ram r kept count)
-    by_outcome Done o = by-decoded o _ refl
-    by_outcome (Refused f) o = refuses f o _ refl (never-ninth f o _ refl)
+    by_outcome Done o = by_decoded o _ refl
+    by_outcome (Refused f) o = refuses f o _ refl (never_ninth f o _ refl)
 
     pub view : View (turn_in b rom ram r kept count)
     view = by_outcome _ refl

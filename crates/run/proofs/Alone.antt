@@ -13,15 +13,15 @@ use Rattle.run.specs.Run.{run_from, run_of}
 use Rattle.run.specs.MirrorAlong.{strays_of, alongFrom, start_of, fewer_of}
 
 module _ (b : Board) (rom : List ℕ) (stop : ℕ) where
-  from-alone : (n : ℕ) (ram : List ℕ) (r : Registers) (steps states : ℕ) → alongFrom b rom stop [] n ram r steps states ≡ run_from b rom stop n ram r steps states
+  from_alone : (n : ℕ) (ram : List ℕ) (r : Registers) (steps states : ℕ) → alongFrom b rom stop [] n ram r steps states ≡ run_from b rom stop n ram r steps states
   unfolding alongFrom run_from strays_of
-  from-alone zero ram r steps states = refl
-  from-alone (suc n) ram r steps states =
-      rw (from-alone n (step_of b rom ram r).mem (step_of b rom ram r).answer.regs (steps + 1) (states + (step_of b rom ram r).answer.states))
+  from_alone zero ram r steps states = refl
+  from_alone (suc n) ram r steps states =
+      rw (from_alone n (step_of b rom ram r).mem (step_of b rom ram r).answer.regs (steps + 1) (states + (step_of b rom ram r).answer.states))
 
   pub alone : (budget : ℕ) (ram : List ℕ) (r : Registers) → start_of b rom ram r stop budget [] 0 ≡ run_of b rom ram r stop budget
   unfolding start_of run_of
-  alone budget ram r = rw (from-alone budget ram r 0 0)
+  alone budget ram r = rw (from_alone budget ram r 0 0)
 
 -- the records that are counted are there
 pub counted : (l m : ℕ) → fewer_of (l / 11) m * 11 ≤ l

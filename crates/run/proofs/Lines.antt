@@ -23,18 +23,18 @@ use Rattle.run.specs.MirrorKept.{entry_of, Means, Keeps}
 -- ---- the entry of bytes
 
 module _ (p : ℕ) (s : List ℕ) (b : Bytes s) where
-  means-by : (found : Found) → found_of s ≡ found → meaning_of p (entry_of s found) ≡ placed_of p s found
-  means-by (Is i n) e = let r = code_read p s i n b (ap (placed_of p s) e) in packed p i r.valid ∙ ap (Code i) (sym r.length_is)
-  means-by Cut e = cut_means p
-  means-by Unlisted e = unheld_means p _ (small_group s)
+  means_by : (found : Found) → found_of s ≡ found → meaning_of p (entry_of s found) ≡ placed_of p s found
+  means_by (Is i n) e = let r = code_read p s i n b (ap (placed_of p s) e) in packed p i r.valid ∙ ap (Code i) (sym r.length_is)
+  means_by Cut e = cut_means p
+  means_by Unlisted e = unheld_means p _ (small_group s)
 
   small_by : (found : Found) → found_of s ≡ found → entry_of s found < 17592186044416
   small_by (Is i n) e = small i (code_read p s i n b (ap (placed_of p s) e)).valid
   small_by Cut e = omega arith
   small_by Unlisted e = unheld_small _ (small_group s)
 
-  pub entry-means : (meaning_of p (entry_of s (found_of s)) ≡ decode_of p s) × (entry_of s (found_of s) < 17592186044416)
-  entry-means = (means-by (found_of s) refl, small_by (found_of s) refl)
+  pub entry_means : (meaning_of p (entry_of s (found_of s)) ≡ decode_of p s) × (entry_of s (found_of s) < 17592186044416)
+  entry_means = (means_by (found_of s) refl, small_by (found_of s) refl)
 
 -- ---- the lines
 

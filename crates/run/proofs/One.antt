@@ -14,7 +14,7 @@ use Rattle.registers.specs.declared.Registers.{Registers}
 use Rattle.memory.specs.Board.{good_board}
 use Rattle.memory.specs.declared.Board.{Board}
 use Rattle.step.specs.Step.{After, after, answered, good_pc, good_start, fetch_of, step_of}
-use Rattle.step.proofs.Laws.{step_is, step-refused, step-states, fetch-keeps}
+use Rattle.step.proofs.Laws.{step_is, step_refused, step_states, fetch_keeps}
 use Rattle.run.specs.Run.{Ran, ran, told, onward, run_from, run_of}
 use Rattle.run.proofs.Turns.{both, pc_fits}
 use Rattle.run.specs.MirrorSingle.{outcome_of}
@@ -37,7 +37,7 @@ module _ (b : Board) (rom ram : List ℕ) (r : Registers) where
 
   small : (0 + (step_of b rom ram r).answer.states) % 4294967296 ≡ (step_of b rom ram r).answer.states
   small =
-      let l : 0 + (step_of b rom ram r).answer.states < 4294967296 = omega (arith, step-states r b rom ram) in
+      let l : 0 + (step_of b rom ram r).answer.states < 4294967296 = omega (arith, step_states r b rom ram) in
       let e : 0 + (step_of b rom ram r).answer.states ≡ (step_of b rom ram r).answer.states = omega arith in mod-eq_of_lt l ∙ e
 
   turned : (o : Outcome) → (step_of b rom ram r).answer.outcome ≡ o
@@ -47,7 +47,7 @@ module _ (b : Board) (rom ram : List ℕ) (r : Registers) where
       last (eqb (step_of b rom ram r).answer.regs.pc 1) (step_of b rom ram r).answer.regs (step_of b rom ram r).mem (0 + (step_of b rom ram r).answer.states)
       ∙ rw small (ap (λ (o : Outcome). after (answered (step_of b rom ram r).answer.regs (step_of b rom ram r).answer.states o) (step_of b rom ram r).mem) (sym d))
   turned (Refused f) d =
-      let e = step-refused r b rom ram f d in
+      let e = step_refused r b rom ram f d in
       let k : (step_of b rom ram r).mem ≡ ram = ap (λ (x : After). x.mem) e in
       ap (λ (m : List ℕ). after (answered r 0 (Refused f)) m) k ∙ sym e
 
@@ -63,20 +63,20 @@ module _ (b : Board) (rom ram : List ℕ) (r : Registers) where
   unfolding run_of step_of
   bad e = rw e
 
-  by-board : (t : Bool) → good_start b rom ram r ≡ t → one (run_of b rom ram r 1 1) ≡ step_of b rom ram r
-  by-board true e = ap (λ (x : Ran). one x) (started e) ∙ goes (off (both (good_board b (length rom) (length ram)) (good_pc r.pc) e).1)
-  by-board false e = bad e
+  by_board : (t : Bool) → good_start b rom ram r ≡ t → one (run_of b rom ram r 1 1) ≡ step_of b rom ram r
+  by_board true e = ap (λ (x : Ran). one x) (started e) ∙ goes (off (both (good_board b (length rom) (length ram)) (good_pc r.pc) e).1)
+  by_board false e = bad e
 
-  pub single-is : one (run_of b rom ram r 1 1) ≡ step_of b rom ram r
-  single-is = by-board _ refl
+  pub single_is : one (run_of b rom ram r 1 1) ≡ step_of b rom ram r
+  single_is = by_board _ refl
 
   -- a step that was done was one of one, which spent the budget: PC is even after it
-  stays-even : good_start b rom ram r ≡ true → (step_of b rom ram r).answer.outcome ≡ Done → eqb (step_of b rom ram r).answer.regs.pc 1 ≡ false
-  stays-even g d =
+  stays_even : good_start b rom ram r ≡ true → (step_of b rom ram r).answer.outcome ≡ Done → eqb (step_of b rom ram r).answer.regs.pc 1 ≡ false
+  stays_even g d =
       let h = both (good_board b (length rom) (length ram)) (good_pc r.pc) g in
       let e = step_is r b rom ram h.0 h.1 in
-      let k = fetch-keeps r b rom ram (rw e at d) in
-      let u = pc_fits true (fetch_of r b rom ram).answer.regs.pc k.pc-good in
+      let k = fetch_keeps r b rom ram (rw e at d) in
+      let u = pc_fits true (fetch_of r b rom ram).answer.regs.pc k.pc_good in
       rw e (ne_eqb (fetch_of r b rom ram).answer.regs.pc 1 (λ z. absurd (omega (arith, u.1, z))))
 
   abbrev Once : Ran → Type 0
@@ -85,7 +85,7 @@ module _ (b : Board) (rom ram : List ℕ) (r : Registers) where
   ends : good_start b rom ram r ≡ true → (o : Outcome) → (step_of b rom ram r).answer.outcome ≡ o
       → Once (onward o (run_from b rom 1 0 (step_of b rom ram r).mem (step_of b rom ram r).answer.regs (0 + 1) (0 + (step_of b rom ram r).answer.states)) (λ f. ran (told r 0 0 (Halted f)) (step_of b rom ram r).mem))
   unfolding run_from
-  ends g Done d = rw (stays-even g d) (λ h. (refl, refl))
+  ends g Done d = rw (stays_even g d) (λ h. (refl, refl))
   ends g (Refused f) d = λ h. let z : ◌≡◌ {A = ℕ} 0 1 = cc in absurd (omega arith)
 
   went : good_start b rom ram r ≡ true → Once (run_from b rom 1 1 ram r 0 0)
@@ -100,13 +100,13 @@ module _ (b : Board) (rom ram : List ℕ) (r : Registers) where
   spends true g = rw (started g) (went g)
   spends false g = stood g
 
-  pub one-spent : Once (run_of b rom ram r 1 1)
-  one-spent = spends _ refl
+  pub one_spent : Once (run_of b rom ram r 1 1)
+  one_spent = spends _ refl
 
 -- so its trail is that of the step
 pub one_told : (b : Board) (rom ram ram' : List ℕ) (r : Registers) (q : Traced) → ran q.answer ram' ≡ run_of b rom ram r 1 1 → Tells b rom r q
     → outcome_of q.answer.why ≡ Done → q.touched ≡ trail_at rom r
 one_told b rom ram ram' r q e t d =
-    let (w, s) = (rw (← e) at (one-spent b rom ram r)) d in
+    let (w, s) = (rw (← e) at (one_spent b rom ram r)) d in
     let l = t w (λ z. absurd (omega (arith, s, z))) in
     l.tells ∙ ap (λ (x : Registers). trail_at rom x) (l.only s)

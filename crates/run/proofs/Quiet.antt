@@ -20,25 +20,25 @@ either true i j h k = record { none = h }
 either false i j h k = k
 
 module _ (v d : ℕ) where
-  counts-none : Quiet (counts v d)
+  counts_none : Quiet (counts v d)
   unfolding counts
-  counts-none =
+  counts_none =
       either (eqb v 0) _ _ refl (either (eqb v 1) _ _ refl (either (eqb v 2) _ _ refl (either (eqb v 3) _ _ refl (either (eqb v 4) _ _ refl
       (either (eqb v 5) _ _ refl (either (eqb v 6) _ _ refl (either (eqb v 7) _ _ refl (either (eqb v 8) _ _ refl (either (eqb v 9) _ _ refl
       (either (eqb v 10) _ _ refl (either (eqb v 11) _ _ refl (either (eqb v 12) _ _ refl (either (eqb v 13) _ _ refl (either (eqb v 14) _ _ refl
       (record { none = refl })))))))))))))))
 
-  turns-none : Quiet (turns v d)
+  turns_none : Quiet (turns v d)
   unfolding turns
-  turns-none =
+  turns_none =
       either (eqb v 0) _ _ refl (either (eqb v 1) _ _ refl (either (eqb v 2) _ _ refl (either (eqb v 3) _ _ refl (either (eqb v 4) _ _ refl
       (either (eqb v 5) _ _ refl (either (eqb v 6) _ _ refl (either (eqb v 7) _ _ refl (either (eqb v 8) _ _ refl (either (eqb v 9) _ _ refl
       (either (eqb v 10) _ _ refl (either (eqb v 11) _ _ refl (either (eqb v 12) _ _ refl (either (eqb v 13) _ _ refl (either (eqb v 14) _ _ refl
       (record { none = refl })))))))))))))))
 
-  long-none : Quiet (long_turns v d)
+  long_none : Quiet (long_turns v d)
   unfolding long_turns
-  long-none =
+  long_none =
       either (eqb v 0) _ _ refl (either (eqb v 1) _ _ refl (either (eqb v 2) _ _ refl (either (eqb v 3) _ _ refl (either (eqb v 4) _ _ refl
       (either (eqb v 5) _ _ refl (either (eqb v 6) _ _ refl (either (eqb v 7) _ _ refl (either (eqb v 8) _ _ refl (either (eqb v 9) _ _ refl
       (either (eqb v 10) _ _ refl (either (eqb v 11) _ _ refl (either (eqb v 12) _ _ refl (record { none = refl })))))))))))))
@@ -48,14 +48,14 @@ module _ (r : Registers) (v x : ℕ) where
   abbrev Untouched : Decoded → Type 0
   Untouched d = 0 ≡ trail_of r 0 (touched_by d)
 
-  pub quiet-counted : Untouched (counted v x)
+  pub quiet_counted : Untouched (counted v x)
   unfolding counted
-  quiet-counted = rw (counts-none v _).none
+  quiet_counted = rw (counts_none v _).none
 
-  pub quiet-turned : Untouched (turned v x)
+  pub quiet_turned : Untouched (turned v x)
   unfolding turned
-  quiet-turned = rw (turns-none v _).none
+  quiet_turned = rw (turns_none v _).none
 
-  pub quiet-turned-long : Untouched (turned_long v x)
+  pub quiet_turned_long : Untouched (turned_long v x)
   unfolding turned_long
-  quiet-turned-long = rw (long-none v _).none
+  quiet_turned_long = rw (long_none v _).none

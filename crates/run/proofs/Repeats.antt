@@ -15,7 +15,7 @@ use Rattle.memory.specs.declared.Board.{Board}
 use Rattle.machine.specs.Machine.{Steps, none, more}
 use Rattle.step.specs.Step.{After, after, answered, good_start, step_of}
 use Rattle.step.specs.Processor.{State, processor}
-use Rattle.step.proofs.Laws.{step-refused}
+use Rattle.step.proofs.Laws.{step_refused}
 use Rattle.run.specs.Run.{Ran, ran, told, onward, run_from, run_of}
 use Rattle.run.specs.Repeated.{state, Away, EndedBy, Repeated}
 use Rattle.run.specs.declared.Ending.{Ending}
@@ -65,7 +65,7 @@ module _ (b : Board) (rom : List ℕ) (stop budget : ℕ) where
   turn n ram r steps states l rest true h o d = rw h (at_once ram r steps states AtStop (eqb-true r.pc stop h))
   turn n ram r steps states l rest false h Done d = rw (h, d) (one_more ram r steps states _ (eqb-false r.pc stop h) d rest)
   turn n ram r steps states l rest false h (Refused f) d =
-      let e = step-refused r b rom ram f d in
+      let e = step_refused r b rom ram f d in
       let k : (step_of b rom ram r).mem ≡ ram = ap (λ (x : After). x.mem) e in
       rw (h, d, k) (at_once ram r steps states (Halted f) (eqb-false r.pc stop h, l, e))
 

@@ -22,7 +22,7 @@ use Rattle.memory.specs.declared.Board.{Board}
 use Rattle.entry.specs.Entry.{by_kind, meaning_of}
 use Rattle.step.specs.Step.{After, after, answered, stays, act_of, good_pc, good_start, fetch_of, step_of}
 use Rattle.step.specs.declared.StepAnswer.{StepAnswer}
-use Rattle.step.proofs.Laws.{Kept, fetch-keeps, fetch-refused}
+use Rattle.step.proofs.Laws.{Kept, fetch_keeps, fetch_refused}
 use Rattle.turns.specs.declared.Turn.{Turn}
 use Rattle.turns.specs.MirrorTurn.{told_as, told_in, touched_by}
 use Rattle.turns.proofs.Laws.{told_done, told_refused}
@@ -75,40 +75,40 @@ module _ (r : Registers) (b : Board) (rom ram : List ℕ) where
     fetched = rw (lt-ltb _ _ l, m)
 
     -- what its kind's group left is what the step leaves
-    pub by-kind : (k : ℕ) → e / 16 % 32 ≡ k → (a : After) → a ≡ act_of (by_kind r.pc k (e % 16) (e / 512)) r b rom ram → a ≡ fetch_of r b rom ram
+    pub by_kind_lem : (k : ℕ) → e / 16 % 32 ≡ k → (a : After) → a ≡ act_of (by_kind r.pc k (e % 16) (e / 512)) r b rom ram → a ≡ fetch_of r b rom ram
     unfolding meaning_of
-    by-kind k h a w = let g : act_of (by_kind r.pc (e / 16 % 32) (e % 16) (e / 512)) r b rom ram ≡ fetch_of r b rom ram = fetched in w ∙ rw h at g
+    by_kind_lem k h a w = let g : act_of (by_kind r.pc (e / 16 % 32) (e % 16) (e / 512)) r b rom ram ≡ fetch_of r b rom ram = fetched in w ∙ rw h at g
 
     -- and what it noted is what the instruction at PC touches
-    pub by-trail : (k : ℕ) → e / 16 % 32 ≡ k → (t : ℕ) → t ≡ trail_of r 0 (touched_by (by_kind r.pc k (e % 16) (e / 512))) → t ≡ trail_at rom r
+    pub by_trail : (k : ℕ) → e / 16 % 32 ≡ k → (t : ℕ) → t ≡ trail_of r 0 (touched_by (by_kind r.pc k (e % 16) (e / 512))) → t ≡ trail_at rom r
     unfolding meaning_of
-    by-trail k h t w =
+    by_trail k h t w =
         let g : trail_of r 0 (touched_by (by_kind r.pc (e / 16 % 32) (e % 16) (e / 512))) ≡ trail_at rom r = ap (λ (d : Decoded). trail_of r 0 (touched_by d)) m in
         w ∙ rw h at g
 
 -- ---- what the turn left: er and m after it
 
 module _ (er₀ er : List ℕ) (pc : ℕ) (f : Condition) (t : Turn) (b : Board) (rom ram m : List ℕ) (e : after (told_in er pc t) m ≡ fetch_of (lent er₀ pc f) b rom ram) where
-  pub turn-done : t.outcome ≡ Done → after (answered (lent er (pc_of t.pc) t.condition) t.states Done) m ≡ fetch_of (lent er₀ pc f) b rom ram
-  turn-done d = ap (λ (a : StepAnswer). after a m) (sym (told_done er pc t d)) ∙ e
+  pub turn_done : t.outcome ≡ Done → after (answered (lent er (pc_of t.pc) t.condition) t.states Done) m ≡ fetch_of (lent er₀ pc f) b rom ram
+  turn_done d = ap (λ (a : StepAnswer). after a m) (sym (told_done er pc t d)) ∙ e
 
   -- a refused turn has written nothing
   module _ (x : Refusal) (d : t.outcome ≡ Refused x) where
-    outcome-is : (told_in er pc t).outcome ≡ Refused x
+    outcome_is : (told_in er pc t).outcome ≡ Refused x
     unfolding told_in told_as
-    outcome-is = rw d
+    outcome_is = rw d
 
     step_stays : fetch_of (lent er₀ pc f) b rom ram ≡ after (stays (lent er₀ pc f) x) ram
-    step_stays = fetch-refused (lent er₀ pc f) b rom ram x (ap (λ (a : After). a.answer.outcome) (sym e) ∙ outcome-is)
+    step_stays = fetch_refused (lent er₀ pc f) b rom ram x (ap (λ (a : After). a.answer.outcome) (sym e) ∙ outcome_is)
 
-    pub same-registers : er ≡ er₀
-    same-registers = told_refused er m ram pc (lent er₀ pc f) t x d (e ∙ step_stays)
+    pub same_registers : er ≡ er₀
+    same_registers = told_refused er m ram pc (lent er₀ pc f) t x d (e ∙ step_stays)
 
     pub same_memory : m ≡ ram
     same_memory = ap (λ (a : After). a.mem) (e ∙ step_stays)
 
-    pub turn-refused : after (stays (lent er₀ pc f) x) m ≡ fetch_of (lent er₀ pc f) b rom ram
-    turn-refused = rw same_memory (sym step_stays)
+    pub turn_refused : after (stays (lent er₀ pc f) x) m ≡ fetch_of (lent er₀ pc f) b rom ram
+    turn_refused = rw same_memory (sym step_stays)
 
 -- ---- the run
 
@@ -136,13 +136,13 @@ pc_fits good pc h =
     (ltb-true pc 16777216 l, eqb-true (pc % 2) 0 e)
 
 module _ (b : Board) (rom : List ℕ) (stop : ℕ) (w ram : List ℕ) (r : Registers) (steps states : ℕ) where
-  at-stop : (n : ℕ) → eqb r.pc stop ≡ true → alongFrom b rom stop w n ram r steps states ≡ ran (told r steps states AtStop) ram
+  at_stop : (n : ℕ) → eqb r.pc stop ≡ true → alongFrom b rom stop w n ram r steps states ≡ ran (told r steps states AtStop) ram
   unfolding alongFrom
-  at-stop zero e = rw e
-  at-stop (suc n) e = rw e
+  at_stop zero e = rw e
+  at_stop (suc n) e = rw e
 
   pub stops : (n : ℕ) → r.pc ≡ stop → alongFrom b rom stop w n ram r steps states ≡ ran (told r steps states AtStop) ram
-  stops n h = at-stop n (eq-eqb _ _ h)
+  stops n h = at_stop n (eq-eqb _ _ h)
 
   pub spent : (budget : ℕ) → (r.pc ≡ stop → ⊥) → steps ≡ budget → alongFrom b rom stop w (budget - steps) ram r steps states ≡ ran (told r steps states Spent) ram
   unfolding alongFrom
@@ -166,13 +166,13 @@ module _ (b : Board) (rom : List ℕ) (stop : ℕ) (w ram : List ℕ) (r : Regis
       kept : Kept r b rom ram (after a m)
       kept =
           let o : (fetch_of r b rom ram).answer.outcome ≡ Done = ap (λ (x : After). x.answer.outcome) (sym e) ∙ d in
-          subst (λ (x : After). Kept r b rom ram x) (sym e) (fetch-keeps r b rom ram o)
+          subst (λ (x : After). Kept r b rom ram x) (sym e) (fetch_keeps r b rom ram o)
 
-      pub length-kept : length m ≡ length ram
-      length-kept = kept.length-stays
+      pub length_kept : length m ≡ length ram
+      length_kept = kept.length_stays
 
-      pub still-good : good_start b rom m a.regs ≡ true
-      still-good = rw (kept.length-stays, (both (good_board b (length rom) (length ram)) (good_pc r.pc) good).0) kept.pc-good
+      pub still_good : good_start b rom m a.regs ≡ true
+      still_good = rw (kept.length_stays, (both (good_board b (length rom) (length ram)) (good_pc r.pc) good).0) kept.pc_good
 
     module _ (budget : ℕ) (off : r.pc ≡ stop → ⊥) (le : steps ≤ budget) (ne : steps ≡ budget → ⊥) (on : strays_of w steps r.pc r.condition states ≡ false) where
       pub goes_on : a.outcome ≡ Done

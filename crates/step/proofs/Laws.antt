@@ -27,7 +27,7 @@ use Rattle.memory.specs.declared.Got.{Got}
 use Rattle.memory.specs.declared.Got.TheVariants.{Value, NotRead}
 use Rattle.memory.specs.declared.Put.{Put}
 use Rattle.memory.specs.declared.Put.TheVariants.{Stored, NotStored}
-use Rattle.memory.proofs.Laws.{read_number, write-left, write-number, write-length}
+use Rattle.memory.proofs.Laws.{read_number, write_left, write_number, write_length}
 use Rattle.operate.specs.Operate.{adjusted_of, decimal_of, carried_of}
 use Rattle.operate.specs.Results.{did, refused}
 use Rattle.operate.specs.Results.{Effect}
@@ -38,7 +38,7 @@ use Rattle.products.specs.declared.Division.TheVariants.{Divided, Fails}
 use Rattle.bitwork.specs.Bitwork.{took_from, takes_at, gave_to, gives_at, takes_of, gives_of}
 use Rattle.timing.proofs.Few.{most_few}
 use Rattle.moves.specs.Made.{states_at}
-use Rattle.moves.proofs.States.{never-more}
+use Rattle.moves.proofs.States.{never_more}
 use Rattle.moves.specs.Moves.{Stepped, stepped, step_over, loaded_of, load_of, stored_of, store_of, push_of, popped_of}
 use Rattle.flow.specs.Targets.{next_of}
 use Rattle.decoder.specs.MirrorDecode.{decode_of}
@@ -83,87 +83,87 @@ module _ (r : Registers) (b : Board) (rom ram : List ℕ) where
   store_view : (w : Width) (a x : ℕ) (q : Registers) → (Whole r → Whole q) → (p : Put) → (write_of w b ram a x).put ≡ p
       → Done-or-not r ram (stepped (stored_of (write_of w b ram a x).put r q) (write_of w b ram a x).mem)
   unfolding stored_of
-  store_view w a x q h Stored e = rw e (done q (write_of w b ram a x).mem (write-length w b ram a x) h)
-  store_view w a x q h (NotStored f) e = rw (e, write-left w b ram a x f e) (not_done f (inr (inl (write-number w b ram a x f e))))
+  store_view w a x q h Stored e = rw e (done q (write_of w b ram a x).mem (write_length w b ram a x) h)
+  store_view w a x q h (NotStored f) e = rw (e, write_left w b ram a x f e) (not_done f (inr (inl (write_number w b ram a x f e))))
 
-  adjust-view : (a : Adjust) (x d : ℕ) → Done-or-not r ram (stepped (adjusted_of a x d r) ram)
+  adjust_view : (a : Adjust) (x d : ℕ) → Done-or-not r ram (stepped (adjusted_of a x d r) ram)
   unfolding adjusted_of
-  adjust-view (Adding v c) x d = done _ ram refl (whole_added v c x d r)
-  adjust-view NoRow x d = not_done (NoAdjustRow r.pc) (inr (inr (inl refl)))
+  adjust_view (Adding v c) x d = done _ ram refl (whole_added v c x d r)
+  adjust_view NoRow x d = not_done (NoAdjustRow r.pc) (inr (inr (inl refl)))
 
-  divide-view : (q : Division) (h : Half) (d : ℕ) → Done-or-not r ram (stepped (divided_of q h d r) ram)
+  divide_view : (q : Division) (h : Half) (d : ℕ) → Done-or-not r ram (stepped (divided_of q h d r) ram)
   unfolding divided_of
-  divide-view (Divided x) h d = done _ ram refl (whole_put h d r x)
-  divide-view Fails h d = not_done (DivideFails r.pc) (inr (inr (inr refl)))
+  divide_view (Divided x) h d = done _ ram refl (whole_put h d r x)
+  divide_view Fails h d = not_done (DivideFails r.pc) (inr (inr (inr refl)))
 
-  took-view : (take : Take) (index : Index) (g : Got) → ((f : Refusal) → g ≡ NotRead f → number_of f ≡ 5) → Done-or-not r ram (stepped (took_from g take index r) ram)
+  took_view : (take : Take) (index : Index) (g : Got) → ((f : Refusal) → g ≡ NotRead f → number_of f ≡ 5) → Done-or-not r ram (stepped (took_from g take index r) ram)
   unfolding took_from
-  took-view take index (Value x) five = done _ ram refl (whole_took take index x r)
-  took-view take index (NotRead f) five = not_done f (inl (five f refl))
+  took_view take index (Value x) five = done _ ram refl (whole_took take index x r)
+  took_view take index (NotRead f) five = not_done f (inl (five f refl))
 
-  takes-view : (take : Take) (index : Index) (spot : Spot) → Done-or-not r ram (stepped (takes_of take index spot r b rom ram) ram)
+  takes_view : (take : Take) (index : Index) (spot : Spot) → Done-or-not r ram (stepped (takes_of take index spot r b rom ram) ram)
   unfolding takes_of takes_at
-  takes-view take index (InPart d) = done _ ram refl (whole_took take index _ r)
-  takes-view take index (AtEr e) = took-view take index _ (λ f h. read_number Byte b rom ram _ f h)
-  takes-view take index (AtAbs a) = took-view take index _ (λ f h. read_number Byte b rom ram _ f h)
+  takes_view take index (InPart d) = done _ ram refl (whole_took take index _ r)
+  takes_view take index (AtEr e) = took_view take index _ (λ f h. read_number Byte b rom ram _ f h)
+  takes_view take index (AtAbs a) = took_view take index _ (λ f h. read_number Byte b rom ram _ f h)
 
-  gave-view : (give : Give) (index : Index) (a : ℕ) (g : Got) → ((f : Refusal) → g ≡ NotRead f → number_of f ≡ 5) → Done-or-not r ram (gave_to g give index a r b ram)
+  gave_view : (give : Give) (index : Index) (a : ℕ) (g : Got) → ((f : Refusal) → g ≡ NotRead f → number_of f ≡ 5) → Done-or-not r ram (gave_to g give index a r b ram)
   unfolding gave_to
-  gave-view give index a (Value x) five = store_view Byte a _ r (λ h. h) _ refl
-  gave-view give index a (NotRead f) five = not_done f (inl (five f refl))
+  gave_view give index a (Value x) five = store_view Byte a _ r (λ h. h) _ refl
+  gave_view give index a (NotRead f) five = not_done f (inl (five f refl))
 
-  gives-view : (give : Give) (index : Index) (spot : Spot) → Done-or-not r ram (gives_of give index spot r b rom ram)
+  gives_view : (give : Give) (index : Index) (spot : Spot) → Done-or-not r ram (gives_of give index spot r b rom ram)
   unfolding gives_of gives_at
-  gives-view give index (InPart d) = done _ ram refl (whole_part Byte r d _)
-  gives-view give index (AtEr e) = gave-view give index _ _ (λ f h. read_number Byte b rom ram _ f h)
-  gives-view give index (AtAbs a) = gave-view give index _ _ (λ f h. read_number Byte b rom ram _ f h)
+  gives_view give index (InPart d) = done _ ram refl (whole_part Byte r d _)
+  gives_view give index (AtEr e) = gave_view give index _ _ (λ f h. read_number Byte b rom ram _ f h)
+  gives_view give index (AtAbs a) = gave_view give index _ _ (λ f h. read_number Byte b rom ram _ f h)
 
-  transfer-view : (next : ℕ) (dir : Dir) (w : Width) (p : Place) (d : ℕ) → Done-or-not r ram (transferOf next r b rom ram dir w p d)
+  transfer_view : (next : ℕ) (dir : Dir) (w : Width) (p : Place) (d : ℕ) → Done-or-not r ram (transferOf next r b rom ram dir w p d)
   unfolding transferOf load_of store_of
-  transfer-view next Load w p d = load_view w d (step_over Up w p r) (whole_over Up w p r) _ (λ f e. read_number w b rom ram _ f e)
-  transfer-view next Store w p d = store_view w _ _ _ (λ h. whole_condition _ _ (whole_over Down w p r h)) _ refl
+  transfer_view next Load w p d = load_view w d (step_over Up w p r) (whole_over Up w p r) _ (λ f e. read_number w b rom ram _ f e)
+  transfer_view next Store w p d = store_view w _ _ _ (λ h. whole_condition _ _ (whole_over Down w p r h)) _ refl
 
-  push-view : (next : ℕ) → Done-or-not r ram (push_of next r b ram)
+  push_view : (next : ℕ) → Done-or-not r ram (push_of next r b ram)
   unfolding push_of
-  push-view next = store_view Long _ next (carried_of Down 4 7 r) (whole_carried Down 4 7 r) _ refl
+  push_view next = store_view Long _ next (carried_of Down 4 7 r) (whole_carried Down 4 7 r) _ refl
 
-  pub effect-view : (next : ℕ) (i : Instruction) → Done-or-not r ram (effect_of next r b rom ram i)
+  pub effect_view : (next : ℕ) (i : Instruction) → Done-or-not r ram (effect_of next r b rom ram i)
   unfolding effect_of decimal_of divide_of
-  effect-view next Nop = done r ram refl (λ h. h)
-  effect-view next (Stc d) = done _ ram refl (whole_stc d r)
-  effect-view next (LdcReg s) = done _ ram refl (whole_ldc s r)
-  effect-view next (Ccr change v) = done _ ram refl (whole_ccr change v r)
-  effect-view next (Alu op w s d) = done _ ram refl (whole_alu op w s d r)
-  effect-view next (IncDec way w by d) = done _ ram refl (whole_inc_dec way w by d r)
-  effect-view next (AddsSubs way by e) = done _ ram refl (whole_adds_subs way by e r)
-  effect-view next (Decimal way d) = adjust-view _ _ d
-  effect-view next (Shift turn w d) = done _ ram refl (whole_shift turn w d r)
-  effect-view next (Unary single w d) = done _ ram refl (whole_unary single w d r)
-  effect-view next (Multiply sign h s d) = done _ ram refl (whole_multiply sign h s d r)
-  effect-view next (Divide sign h s d) = divide-view _ h d
-  effect-view next (Takes take index spot) = takes-view take index spot
-  effect-view next (Gives give index spot) = gives-view give index spot
-  effect-view next (Move dir w p d) = transfer-view next dir w p d
-  effect-view next (Bcc c reach) = done r ram refl (λ h. h)
-  effect-view next (Jmp target) = done r ram refl (λ h. h)
-  effect-view next (Bsr reach) = push-view next
-  effect-view next (Jsr target) = push-view next
-  effect-view next Rts = done _ ram refl (whole_carried Up 4 7 r)
+  effect_view next Nop = done r ram refl (λ h. h)
+  effect_view next (Stc d) = done _ ram refl (whole_stc d r)
+  effect_view next (LdcReg s) = done _ ram refl (whole_ldc s r)
+  effect_view next (Ccr change v) = done _ ram refl (whole_ccr change v r)
+  effect_view next (Alu op w s d) = done _ ram refl (whole_alu op w s d r)
+  effect_view next (IncDec way w by d) = done _ ram refl (whole_inc_dec way w by d r)
+  effect_view next (AddsSubs way by e) = done _ ram refl (whole_adds_subs way by e r)
+  effect_view next (Decimal way d) = adjust_view _ _ d
+  effect_view next (Shift turn w d) = done _ ram refl (whole_shift turn w d r)
+  effect_view next (Unary single w d) = done _ ram refl (whole_unary single w d r)
+  effect_view next (Multiply sign h s d) = done _ ram refl (whole_multiply sign h s d r)
+  effect_view next (Divide sign h s d) = divide_view _ h d
+  effect_view next (Takes take index spot) = takes_view take index spot
+  effect_view next (Gives give index spot) = gives_view give index spot
+  effect_view next (Move dir w p d) = transfer_view next dir w p d
+  effect_view next (Bcc c reach) = done r ram refl (λ h. h)
+  effect_view next (Jmp target) = done r ram refl (λ h. h)
+  effect_view next (Bsr reach) = push_view next
+  effect_view next (Jsr target) = push_view next
+  effect_view next Rts = done _ ram refl (whole_carried Up 4 7 r)
 
-  aim-five : (t : Target) (f : Refusal) → aim_of r b rom ram t ≡ NotRead f → number_of f ≡ 5
+  aim_five : (t : Target) (f : Refusal) → aim_of r b rom ram t ≡ NotRead f → number_of f ≡ 5
   unfolding aim_of
-  aim-five (ByReg e) f h = let z : ◌≡◌ {A = ℕ} 0 1 = cc in absurd (omega arith)
-  aim-five (Direct a) f h = let z : ◌≡◌ {A = ℕ} 0 1 = cc in absurd (omega arith)
-  aim-five (Vector a) f h = read_number Long b rom ram a f h
+  aim_five (ByReg e) f h = let z : ◌≡◌ {A = ℕ} 0 1 = cc in absurd (omega arith)
+  aim_five (Direct a) f h = let z : ◌≡◌ {A = ℕ} 0 1 = cc in absurd (omega arith)
+  aim_five (Vector a) f h = read_number Long b rom ram a f h
 
-  follow-five : (g : Goes) (next : ℕ) (f : Refusal) → followOf r b rom ram g next ≡ NotRead f → number_of f ≡ 5
+  follow_five : (g : Goes) (next : ℕ) (f : Refusal) → followOf r b rom ram g next ≡ NotRead f → number_of f ≡ 5
   unfolding followOf
-  follow-five Onward next f h = let z : ◌≡◌ {A = ℕ} 0 1 = cc in absurd (omega arith)
-  follow-five (Branches c reach) next f h = let z : ◌≡◌ {A = ℕ} 0 1 = cc in absurd (omega arith)
-  follow-five (Jumps t) next f h = aim-five t f h
-  follow-five (CallsNear reach) next f h = let z : ◌≡◌ {A = ℕ} 0 1 = cc in absurd (omega arith)
-  follow-five (Calls t) next f h = aim-five t f h
-  follow-five Returns next f h = read_number Long b rom ram _ f h
+  follow_five Onward next f h = let z : ◌≡◌ {A = ℕ} 0 1 = cc in absurd (omega arith)
+  follow_five (Branches c reach) next f h = let z : ◌≡◌ {A = ℕ} 0 1 = cc in absurd (omega arith)
+  follow_five (Jumps t) next f h = aim_five t f h
+  follow_five (CallsNear reach) next f h = let z : ◌≡◌ {A = ℕ} 0 1 = cc in absurd (omega arith)
+  follow_five (Calls t) next f h = aim_five t f h
+  follow_five Returns next f h = read_number Long b rom ram _ f h
 
   -- what a step on a right board comes to
   pub data Comes : After → Type 0 where
@@ -184,8 +184,8 @@ module _ (r : Registers) (b : Board) (rom ram : List ℕ) where
 
     carried : (g : Got) → followOf r b rom ram (goes_of i) (next_of r.pc n) ≡ g → Comes (carry_of g i (next_of r.pc n) r b rom ram)
     unfolding carry_of
-    carried (Value p) e = finished p e _ refl (effect-view (next_of r.pc n) i)
-    carried (NotRead f) e = by_data i n f l d (inl (follow-five (goes_of i) (next_of r.pc n) f e))
+    carried (Value p) e = finished p e _ refl (effect_view (next_of r.pc n) i)
+    carried (NotRead f) e = by_data i n f l d (inl (follow_five (goes_of i) (next_of r.pc n) f e))
 
     obeyed : Comes (obey_of i n r b rom ram)
     unfolding obey_of
@@ -214,20 +214,20 @@ module _ (r : Registers) (b : Board) (rom ram : List ℕ) where
 
   -- a completed step leaves PC even and below 2^24, the registers in range and working memory's length
   pub record Kept (a : After) : Type 0 where
-    pub pc-good : good_pc a.answer.regs.pc ≡ true
+    pub pc_good : good_pc a.answer.regs.pc ≡ true
     pub whole : Whole r → Whole a.answer.regs
-    pub length-stays : length a.mem ≡ length ram
+    pub length_stays : length a.mem ≡ length ram
 
-  done-keeps : (a : After) → Comes r b rom ram a → a.answer.outcome ≡ Done → Kept a
-  done-keeps a (outside l) e = let z : ◌≡◌ {A = ℕ} 0 1 = cc in absurd (omega arith)
-  done-keeps a (no_code g l d) e = let z : ◌≡◌ {A = ℕ} 0 1 = cc in absurd (omega arith)
-  done-keeps a (by_data i n g l d k) e = let z : ◌≡◌ {A = ℕ} 0 1 = cc in absurd (omega arith)
-  done-keeps a (completes i n p q m l d g e' k h) e =
+  done_keeps : (a : After) → Comes r b rom ram a → a.answer.outcome ≡ Done → Kept a
+  done_keeps a (outside l) e = let z : ◌≡◌ {A = ℕ} 0 1 = cc in absurd (omega arith)
+  done_keeps a (no_code g l d) e = let z : ◌≡◌ {A = ℕ} 0 1 = cc in absurd (omega arith)
+  done_keeps a (by_data i n g l d k) e = let z : ◌≡◌ {A = ℕ} 0 1 = cc in absurd (omega arith)
+  done_keeps a (completes i n p q m l d g e' k h) e =
       let (x, y) = pc_even q p in
       record {
-        pc-good = rw (eq-eqb _ _ x, lt-ltb _ _ y);
+        pc_good = rw (eq-eqb _ _ x, lt-ltb _ _ y);
         whole = λ u. whole_pc q p (h u);
-        length-stays = k;
+        length_stays = k;
       }
 
   stepped_by : (t : Bool) → good_start b rom ram r ≡ t → (f : Refusal) → (step_of b rom ram r).answer.outcome ≡ Refused f
@@ -237,25 +237,25 @@ module _ (r : Registers) (b : Board) (rom ram : List ℕ) where
   stepped_by false t f e = let k = rw t at e in let h : BadBoard ≡ f = cc in rw (t, h)
 
   -- on any board
-  pub step-refused : (f : Refusal) → (step_of b rom ram r).answer.outcome ≡ Refused f → step_of b rom ram r ≡ after (stays r f) ram
-  step-refused f e = stepped_by _ refl f e
+  pub step_refused : (f : Refusal) → (step_of b rom ram r).answer.outcome ≡ Refused f → step_of b rom ram r ≡ after (stays r f) ram
+  step_refused f e = stepped_by _ refl f e
 
   -- on a right board, from a PC that can be, a step is the inner step
   pub step_is : good_board b (length rom) (length ram) ≡ true → good_pc r.pc ≡ true → step_of b rom ram r ≡ fetch_of r b rom ram
   unfolding step_of
   step_is g p = rw (g, p)
 
-  pub fetch-keeps : (fetch_of r b rom ram).answer.outcome ≡ Done → Kept (fetch_of r b rom ram)
-  fetch-keeps e = done-keeps _ (comes r b rom ram) e
+  pub fetch_keeps : (fetch_of r b rom ram).answer.outcome ≡ Done → Kept (fetch_of r b rom ram)
+  fetch_keeps e = done_keeps _ (comes r b rom ram) e
 
-  pub fetch-refused : (f : Refusal) → (fetch_of r b rom ram).answer.outcome ≡ Refused f → fetch_of r b rom ram ≡ after (stays r f) ram
-  fetch-refused f e = refused_stays _ (comes r b rom ram) f e
+  pub fetch_refused : (f : Refusal) → (fetch_of r b rom ram).answer.outcome ≡ Refused f → fetch_of r b rom ram ≡ after (stays r f) ram
+  fetch_refused f e = refused_stays _ (comes r b rom ram) f e
 
   few : (a : After) → Comes r b rom ram a → a.answer.states ≤ 32
   few a (outside l) = omega arith
   few a (no_code f l d) = omega arith
   few a (by_data i n f l d k) = omega arith
-  few a (completes i n p q m l d g e k h) = omega (arith, never-more b.site r i, most_few b.site i)
+  few a (completes i n p q m l d g e k h) = omega (arith, never_more b.site r i, most_few b.site i)
 
   few_on : (t : Bool) → good_start b rom ram r ≡ t → (step_of b rom ram r).answer.states ≤ 32
   unfolding step_of
@@ -263,5 +263,5 @@ module _ (r : Registers) (b : Board) (rom ram : List ℕ) where
   few_on false e = rw e (omega arith)
 
   -- a step takes at most 32 states
-  pub step-states : (step_of b rom ram r).answer.states ≤ 32
-  step-states = few_on _ refl
+  pub step_states : (step_of b rom ram r).answer.states ≤ 32
+  step_states = few_on _ refl

@@ -18,7 +18,7 @@ use Rattle.operate.specs.MirrorLent.{effect_in}
 use Rattle.operate.specs.Results.{Effect}
 use Rattle.timing.specs.Made.{made_at, sum_of, base_of}
 use Rattle.moves.specs.Made.{trail_of, states_at}
-use Rattle.moves.proofs.States.{states-once, states-twice, stored-where, pushed-where}
+use Rattle.moves.proofs.States.{states_once, states_twice, stored_where, pushed_where}
 use Rattle.moves.specs.Moves.{stepped, address_of, step_over, load_of, store_of, push_of}
 use Rattle.flow.specs.Targets.{next_of}
 use Rattle.codes.specs.States.{goes_of}
@@ -38,68 +38,68 @@ use Rattle.codes.specs.declared.Decoded.TheVariants.{Code}
 use Rattle.step.specs.Follow.{followOf}
 use Rattle.step.specs.Step.{after, effect_of, transferOf, carry_of, obey_of, act_of}
 use Rattle.turns.specs.MirrorTurn.{ended_of, told_in, TurnsOn, touched_by}
-use Rattle.turns.proofs.Laws.{ended-told, ended-taking}
+use Rattle.turns.proofs.Laws.{ended_told, ended_taking}
 use Rattle.entry.specs.Entry.{move_by}
 use Rattle.transfer.specs.declared.moving.Aim.{Aim}
 use Rattle.transfer.specs.MirrorTransfer.{finished, push_cost, low_of, high_of, aim, aim_in, move_base, moved_at}
 
 -- the states of what touches memory, by what its accesses cost
 module _ (k : Site) (r : Registers) (x : ℕ) where
-  pub rts-takes : x ≡ sum_of k (made_at Load Long (part_of Long r 7)) → 6 + x ≡ states_at k r Rts
+  pub rts_takes : x ≡ sum_of k (made_at Load Long (part_of Long r 7)) → 6 + x ≡ states_at k r Rts
   unfolding base_of address_of
-  rts-takes h = rw h (sym (states-once k r Rts (touch Load Long (Step 7)) refl))
+  rts_takes h = rw h (sym (states_once k r Rts (touch Load Long (Step 7)) refl))
 
-  pub jmp-takes : (a : ℕ) → x ≡ sum_of k (made_at Load Long a) → 6 + x ≡ states_at k r (Jmp (Vector a))
+  pub jmp_takes : (a : ℕ) → x ≡ sum_of k (made_at Load Long a) → 6 + x ≡ states_at k r (Jmp (Vector a))
   unfolding base_of address_of
-  jmp-takes a h = rw h (sym (states-once k r (Jmp (Vector a)) (touch Load Long (Abs24 a)) refl))
+  jmp_takes a h = rw h (sym (states_once k r (Jmp (Vector a)) (touch Load Long (Abs24 a)) refl))
 
-  pub jsr-takes : (a : ℕ) → x ≡ sum_of k (made_at Load Long a) → states_at k r (Jsr (Vector a)) ≡ 4 + x + push_cost k r
+  pub jsr_takes : (a : ℕ) → x ≡ sum_of k (made_at Load Long a) → states_at k r (Jsr (Vector a)) ≡ 4 + x + push_cost k r
   unfolding base_of address_of
-  jsr-takes a h = rw h (states-twice k r (Jsr (Vector a)) (touch Load Long (Abs24 a)) (touch Store Long (Step 7)) refl)
+  jsr_takes a h = rw h (states_twice k r (Jsr (Vector a)) (touch Load Long (Abs24 a)) (touch Store Long (Step 7)) refl)
 
 pub push_takes : (k : Site) (r : Registers) (i : Instruction) → touches_of i ≡ pushes → states_at k r i ≡ base_of i + push_cost k r
-push_takes k r i h = states-once k r i (touch Store Long (Step 7)) h
+push_takes k r i h = states_once k r i (touch Store Long (Step 7)) h
 
 -- what was done by a deed e, whose registers lie in er' and whose memory is ram'; x is what its access cost
 module _ (er er' ram ram' : List ℕ) (pc : ℕ) (f : Condition) (b : Board) (e : Deed) (x : ℕ) where
-  pub push-told : (next to n : ℕ) → x ≡ sum_of b.site (made_at Load Long (part_in Long er' 7)) → stepped (effect_in er' pc e) ram' ≡ push_of next (lent er pc f) b ram
+  pub push_told : (next to n : ℕ) → x ≡ sum_of b.site (made_at Load Long (part_in Long er' 7)) → stepped (effect_in er' pc e) ram' ≡ push_of next (lent er pc f) b ram
       → after (told_in er' pc (ended_of e.outcome e.condition to (n + x))) ram'
       ≡ finished (push_of next (lent er pc f) b ram) (lent er pc f) to (n + push_cost b.site (lent er pc f))
   unfolding effect_of
-  push-told next to n h w =
-      ended-told (lent er pc f) ram er' ram' pc e to (n + x) _ (λ o. rw (h, pushed-where er er' ram ram' pc f b e o next w)) next b [] (Bsr (Near 0)) w
+  push_told next to n h w =
+      ended_told (lent er pc f) ram er' ram' pc e to (n + x) _ (λ o. rw (h, pushed_where er er' ram ram' pc f b e o next w)) next b [] (Bsr (Near 0)) w
 
   module _ (rom : List ℕ) (w : Width) where
     -- @ER+ and @-ER
-    pub step-loads : (r d n : ℕ) → x ≡ sum_of b.site (made_at Load w (part_in Long er r)) → effect_in er' pc e ≡ load_of w (Step r) d (lent er pc f) b rom ram
+    pub step_loads : (r d n : ℕ) → x ≡ sum_of b.site (made_at Load w (part_in Long er r)) → effect_in er' pc e ≡ load_of w (Step r) d (lent er pc f) b rom ram
         → TurnsOn (Code (Move Load w (Step r) d) n) er er' pc f b rom ram ram (ended_of e.outcome e.condition (next_of pc n) (move_base w (Step r) + x))
     unfolding effect_of transferOf followOf base_of address_of part_of
-    step-loads r d n h q =
-        ended-taking (Move Load w (Step r) d) n (next_of pc n) er pc f b rom ram _ er' ram e
-        (λ o. rw h (sym (states-once b.site (lent er pc f) (Move Load w (Step r) d) (touch Load w (Step r)) refl))) refl (ap (λ (y : Effect). stepped y ram) q)
+    step_loads r d n h q =
+        ended_taking (Move Load w (Step r) d) n (next_of pc n) er pc f b rom ram _ er' ram e
+        (λ o. rw h (sym (states_once b.site (lent er pc f) (Move Load w (Step r) d) (touch Load w (Step r)) refl))) refl (ap (λ (y : Effect). stepped y ram) q)
 
-    pub step-stores : (r d n : ℕ) → x ≡ sum_of b.site (made_at Load w (part_in Long er' r)) → stepped (effect_in er' pc e) ram' ≡ store_of w (Step r) d (lent er pc f) b ram
+    pub step_stores : (r d n : ℕ) → x ≡ sum_of b.site (made_at Load w (part_in Long er' r)) → stepped (effect_in er' pc e) ram' ≡ store_of w (Step r) d (lent er pc f) b ram
         → TurnsOn (Code (Move Store w (Step r) d) n) er er' pc f b rom ram ram' (ended_of e.outcome e.condition (next_of pc n) (move_base w (Step r) + x))
     unfolding effect_of transferOf followOf base_of
-    step-stores r d n h q =
-        ended-taking (Move Store w (Step r) d) n (next_of pc n) er pc f b rom ram _ er' ram' e
-        (λ o. rw (h, stored-where er er' ram ram' pc f b e o w r d q) (sym (states-once b.site (lent er pc f) (Move Store w (Step r) d) (touch Store w (Step r)) refl)))
+    step_stores r d n h q =
+        ended_taking (Move Store w (Step r) d) n (next_of pc n) er pc f b rom ram _ er' ram' e
+        (λ o. rw (h, stored_where er er' ram ram' pc f b e o w r d q) (sym (states_once b.site (lent er pc f) (Move Store w (Step r) d) (touch Store w (Step r)) refl)))
         refl q
 
     -- the other places
     module _ (a : Aim) (h : x ≡ sum_of b.site (made_at Load w a.address)) where
-      pub aim-loads : effect_in er' pc e ≡ load_of w (Abs24 a.address) a.register (lent er pc f) b rom ram
+      pub aim_loads : effect_in er' pc e ≡ load_of w (Abs24 a.address) a.register (lent er pc f) b rom ram
           → after (told_in er' pc (ended_of e.outcome e.condition a.next (a.states + x))) ram ≡ moved_at Load w a (lent er pc f) b rom ram
       unfolding effect_of transferOf moved_at
-      aim-loads q =
-          ended-told (lent er pc f) ram er' ram pc e a.next (a.states + x) _ (λ o. rw h) a.next b rom (Move Load w (Abs24 a.address) a.register)
+      aim_loads q =
+          ended_told (lent er pc f) ram er' ram pc e a.next (a.states + x) _ (λ o. rw h) a.next b rom (Move Load w (Abs24 a.address) a.register)
           (ap (λ (y : Effect). stepped y ram) q)
 
-      pub aim-stores : stepped (effect_in er' pc e) ram' ≡ store_of w (Abs24 a.address) a.register (lent er pc f) b ram
+      pub aim_stores : stepped (effect_in er' pc e) ram' ≡ store_of w (Abs24 a.address) a.register (lent er pc f) b ram
           → after (told_in er' pc (ended_of e.outcome e.condition a.next (a.states + x))) ram' ≡ moved_at Store w a (lent er pc f) b rom ram
       unfolding effect_of transferOf moved_at
-      aim-stores q =
-          ended-told (lent er pc f) ram er' ram' pc e a.next (a.states + x) _ (λ o. rw h) a.next b rom (Move Store w (Abs24 a.address) a.register) q
+      aim_stores q =
+          ended_told (lent er pc f) ram er' ram' pc e a.next (a.states + x) _ (λ o. rw h) a.next b rom (Move Store w (Abs24 a.address) a.register) q
 
 -- a call, where n is its states without the push
 pub call_acts : (i : Instruction) (l to n : ℕ) (er : List ℕ) (pc : ℕ) (f : Condition) (b : Board) (rom ram : List ℕ)
@@ -114,17 +114,17 @@ module _ (dir : Dir) (w : Width) (er : List ℕ) (pc : ℕ) (f : Condition) (b :
   abbrev Moves : Decoded → Aim → Type 0
   Moves c a = moved_at dir w a (lent er pc f) b rom ram ≡ act_of c (lent er pc f) b rom ram
 
-  moved-takes : (g : Dir) (p : Place) (d : ℕ) → ((way : Way) → step_over way w p (lent er pc f) ≡ lent er pc f)
+  moved_takes : (g : Dir) (p : Place) (d : ℕ) → ((way : Way) → step_over way w p (lent er pc f) ≡ lent er pc f)
       → states_at b.site (lent er pc f) (Move g w p d) ≡ move_base w p + sum_of b.site (made_at Load w (address_of p (lent er pc f)))
   unfolding base_of
-  moved-takes Load p d h = states-once b.site (lent er pc f) (Move Load w p d) (touch Load w p) refl
-  moved-takes Store p d h = rw (h Down) at (states-once b.site (lent er pc f) (Move Store w p d) (touch Store w p) refl)
+  moved_takes Load p d h = states_once b.site (lent er pc f) (Move Load w p d) (touch Load w p) refl
+  moved_takes Store p d h = rw (h Down) at (states_once b.site (lent er pc f) (Move Store w p d) (touch Store w p) refl)
 
   at_address : (g : Dir) (p : Place) (d n : ℕ) → ((way : Way) → step_over way w p (lent er pc f) ≡ lent er pc f)
       → moved_at g w (aim (address_of p (lent er pc f)) d (next_of pc n) (move_base w p)) (lent er pc f) b rom ram ≡ act_of (Code (Move g w p d) n) (lent er pc f) b rom ram
   unfolding moved_at transferOf load_of store_of step_over address_of act_of obey_of carry_of followOf effect_of
-  at_address Load p d n h = rw (moved-takes Load p d h, h Up)
-  at_address Store p d n h = rw (moved-takes Store p d h, h Down)
+  at_address Load p d n h = rw (moved_takes Load p d h, h Up)
+  at_address Store p d n h = rw (moved_takes Store p d h, h Down)
 
   both : (t : Bool) (c c' : Decoded) (a a' : Aim) → Moves c a → Moves c' a' → Moves (cond t c c') (cond t a a')
   both true c c' a a' h k = h
@@ -138,9 +138,9 @@ module _ (dir : Dir) (w : Width) (er : List ℕ) (pc : ℕ) (f : Condition) (b :
         → move_base w p ≡ t → Moves (Code (Move dir w p d) l) (aim a d' (next_of pc l) t)
     row p d d' l a t h u v q = rw (u, v, sym q) (at_address dir p d l h)
 
-    pub aimed-moves : (k : ℕ) → eqb k 1 ≡ false → Moves (move_by k dir w m n x) (aim_in k m x pc n s er)
+    pub aimed_moves : (k : ℕ) → eqb k 1 ≡ false → Moves (move_by k dir w m n x) (aim_in k m x pc n s er)
     unfolding move_by aim_in address_of part_of step_over
-    aimed-moves k h =
+    aimed_moves k h =
         let y = x / 65536 in
         rw h
         (both (eqb k 0) _ _ _ _ (row (At (x / m % 8)) (x % m) _ n _ s (λ way. refl) (low x) (rw (high x)) (least _))
@@ -154,24 +154,24 @@ module _ (dir : Dir) (w : Width) (er : List ℕ) (pc : ℕ) (f : Condition) (t :
   abbrev Notes-as : Decoded → ℕ → Type 0
   Notes-as c a = trail_of (lent er pc f) t (touch dir w (Abs24 a) ∷ []) ≡ trail_of (lent er pc f) t (touched_by c)
 
-  noted-at : (g : Dir) (p : Place) (a : ℕ) → ((way : Way) → step_over way w p (lent er pc f) ≡ lent er pc f) → a ≡ address_of p (lent er pc f)
+  noted_at : (g : Dir) (p : Place) (a : ℕ) → ((way : Way) → step_over way w p (lent er pc f) ≡ lent er pc f) → a ≡ address_of p (lent er pc f)
       → trail_of (lent er pc f) t (touch g w (Abs24 a) ∷ []) ≡ trail_of (lent er pc f) t (touch g w p ∷ [])
   unfolding address_of step_over
-  noted-at Load p a h e = rw e
-  noted-at Store p a h e = rw (e, h Down)
+  noted_at Load p a h e = rw e
+  noted_at Store p a h e = rw (e, h Down)
 
   either : (b : Bool) (c c' : Decoded) (a a' : Aim) → Notes-as c a.address → Notes-as c' a'.address → Notes-as (cond b c c') (cond b a a').address
   either true c c' a a' h k = h
   either false c c' a a' h k = k
 
-  pub aimed-trail : (m n s x at : ℕ) → ((y : ℕ) → high_of m y ≡ y / m % 8) → (k : ℕ) → eqb k 1 ≡ false
+  pub aimed_trail : (m n s x at : ℕ) → ((y : ℕ) → high_of m y ≡ y / m % 8) → (k : ℕ) → eqb k 1 ≡ false
       → Notes-as (move_by k dir w m n x) (aim_in k m x at n s er).address
   unfolding move_by aim_in address_of part_of step_over
-  aimed-trail m n s x at high k h =
+  aimed_trail m n s x at high k h =
       let y = x / 65536 in
       rw h
-      (either (eqb k 0) _ _ _ _ (noted-at dir (At (x / m % 8)) _ (λ way. refl) (rw (high x)))
-      (either (eqb k 2) _ _ _ _ (noted-at dir (Disp (y / m % 8) (x % 65536)) _ (λ way. refl) (rw (high y)))
-      (either (eqb k 3) _ _ _ _ (noted-at dir (Abs8 (x % 256)) _ (λ way. refl) refl)
-      (either (eqb k 4) _ _ _ _ (noted-at dir (Abs16 (x % 65536)) _ (λ way. refl) refl)
-      (noted-at dir (Abs24 (x % 16777216)) _ (λ way. refl) refl)))))
+      (either (eqb k 0) _ _ _ _ (noted_at dir (At (x / m % 8)) _ (λ way. refl) (rw (high x)))
+      (either (eqb k 2) _ _ _ _ (noted_at dir (Disp (y / m % 8) (x % 65536)) _ (λ way. refl) (rw (high y)))
+      (either (eqb k 3) _ _ _ _ (noted_at dir (Abs8 (x % 256)) _ (λ way. refl) refl)
+      (either (eqb k 4) _ _ _ _ (noted_at dir (Abs16 (x % 65536)) _ (λ way. refl) refl)
+      (noted_at dir (Abs24 (x % 16777216)) _ (λ way. refl) refl)))))

@@ -19,14 +19,14 @@ use Rattle.operate.specs.MirrorLent.{Does, effect_in}
 use Rattle.operate.specs.Results.{did}
 use Rattle.moves.specs.Made.{states_at}
 use Rattle.moves.specs.Moves.{Stepped, stepped}
-use Rattle.moves.proofs.States.{states-none}
+use Rattle.moves.proofs.States.{states_none}
 use Rattle.flow.specs.Targets.{next_of}
 use Rattle.codes.specs.Cycles.{touches_of}
 use Rattle.codes.specs.States.{states_of, goes_of}
 use Rattle.step.specs.Follow.{followOf}
 use Rattle.step.specs.Step.{After, after, answered, stays, finish_of, effect_of, carry_of, obey_of, act_of}
 use Rattle.step.specs.declared.StepAnswer.{StepAnswer}
-use Rattle.step.proofs.Laws.{Done-or-not, done, not_done, effect-view}
+use Rattle.step.proofs.Laws.{Done-or-not, done, not_done, effect_view}
 use Rattle.codes.specs.declared.Instruction.{Instruction}
 use Rattle.codes.specs.declared.Decoded.TheVariants.{Code}
 use Rattle.turns.specs.declared.Turn.{Turn}
@@ -44,22 +44,22 @@ refused_stays er pc f x = rw (zero-add pc)
 
 -- a deed that did what the instruction i does, with PC set to p: done, with m its states, or refused with nothing written
 module _ (r : Registers) (ram er' ram' : List ℕ) (pc : ℕ) (e : Deed) (p n m : ℕ) (t : e.outcome ≡ Done → n ≡ m) where
-  deed-told : (s : Stepped) → Done-or-not r ram s → stepped (effect_in er' pc e) ram' ≡ s
+  deed_told : (s : Stepped) → Done-or-not r ram s → stepped (effect_in er' pc e) ram' ≡ s
       → after (told_in er' pc (ended_of e.outcome e.condition p n)) ram' ≡ after (finish_of s.effect.outcome r s.effect.regs p m) s.mem
   unfolding ended_of finish_of
-  deed-told s (done q l k h) w =
+  deed_told s (done q l k h) w =
       let o : e.outcome ≡ Done = ap (λ (x : Stepped). x.effect.outcome) w in
       let g : lent er' pc e.condition ≡ q = ap (λ (x : Stepped). x.effect.regs) w in
       rw (o, ap (λ (x : Stepped). x.mem) w, sym (t o)) (ap (λ (a : StepAnswer). after a l) (done_told r q er' pc e.condition p n g))
-  deed-told s (not_done x h) w =
+  deed_told s (not_done x h) w =
       let o : e.outcome ≡ Refused x = ap (λ (s : Stepped). s.effect.outcome) w in
       let g : lent er' pc e.condition ≡ r = ap (λ (s : Stepped). s.effect.regs) w in
       rw (o, ap (λ (s : Stepped). s.mem) w) (ap (λ (a : StepAnswer). after a ram) (refused_stays er' pc e.condition x ∙ ap (λ (q : Registers). stays q x) g))
 
-  pub ended-told : (next : ℕ) (b : Board) (rom : List ℕ) (i : Instruction) → stepped (effect_in er' pc e) ram' ≡ effect_of next r b rom ram i
+  pub ended_told : (next : ℕ) (b : Board) (rom : List ℕ) (i : Instruction) → stepped (effect_in er' pc e) ram' ≡ effect_of next r b rom ram i
       → after (told_in er' pc (ended_of e.outcome e.condition p n)) ram'
       ≡ (let s = effect_of next r b rom ram i in after (finish_of s.effect.outcome r s.effect.regs p m) s.mem)
-  ended-told next b rom i w = deed-told _ (effect-view r b rom ram next i) w
+  ended_told next b rom i w = deed_told _ (effect_view r b rom ram next i) w
 
 -- The ways in which an arm of the executor ends, for an instruction i of n bytes. p is where PC goes; where i goes onward, that is the next address.
 module _ (i : Instruction) (n p : ℕ) (er : List ℕ) (pc : ℕ) (f : Condition) (b : Board) (rom ram : List ℕ) where
@@ -74,33 +74,33 @@ module _ (i : Instruction) (n p : ℕ) (er : List ℕ) (pc : ℕ) (f : Condition
   Takes s = s ≡ states_at b.site (lent er pc f) i
 
   -- it did g, which writes no memory and is not refused
-  pub done-taking : (s : ℕ) → Takes s → (g : Registers → Registers) (er' : List ℕ) (f' : Condition) → Goes-to (Value p)
+  pub done_taking : (s : ℕ) → Takes s → (g : Registers → Registers) (er' : List ℕ) (f' : Condition) → Goes-to (Value p)
       → effect_of (next_of pc n) (lent er pc f) b rom ram i ≡ stepped (did (g (lent er pc f))) ram → Does g er er' f f'
       → Acts er' ram (turn f' p s Done)
   unfolding act_of obey_of carry_of
-  done-taking s t g er' f' w x d =
+  done_taking s t g er' f' w x d =
       rw (w, x, sym t) (ap (λ (a : StepAnswer). after a ram) (done_told (lent er pc f) (g (lent er pc f)) er' pc f' p s (d pc)))
 
   -- a deed that did all that i does, or was refused
-  pub ended-taking : (s : ℕ) (er' ram' : List ℕ) (e : Deed) → (e.outcome ≡ Done → Takes s) → Goes-to (Value p)
+  pub ended_taking : (s : ℕ) (er' ram' : List ℕ) (e : Deed) → (e.outcome ≡ Done → Takes s) → Goes-to (Value p)
       → stepped (effect_in er' pc e) ram' ≡ effect_of (next_of pc n) (lent er pc f) b rom ram i → Acts er' ram' (ended_of e.outcome e.condition p s)
   unfolding act_of obey_of carry_of
-  ended-taking s er' ram' e t w x = rw w (ended-told (lent er pc f) ram er' ram' pc e p s _ t (next_of pc n) b rom i x)
+  ended_taking s er' ram' e t w x = rw w (ended_told (lent er pc f) ram er' ram' pc e p s _ t (next_of pc n) b rom i x)
 
   -- the same where i touches no memory
-  pub done-acts : touches_of i ≡ [] → (g : Registers → Registers) (er' : List ℕ) (f' : Condition) → Goes-to (Value p)
+  pub done_acts : touches_of i ≡ [] → (g : Registers → Registers) (er' : List ℕ) (f' : Condition) → Goes-to (Value p)
       → effect_of (next_of pc n) (lent er pc f) b rom ram i ≡ stepped (did (g (lent er pc f))) ram → Does g er er' f f'
       → Acts er' ram (turn f' p (states_of i) Done)
-  done-acts h = done-taking (states_of i) (sym (states-none b.site (lent er pc f) i h))
+  done_acts h = done_taking (states_of i) (sym (states_none b.site (lent er pc f) i h))
 
-  pub ended-acts : touches_of i ≡ [] → (er' ram' : List ℕ) (e : Deed) → Goes-to (Value p)
+  pub ended_acts : touches_of i ≡ [] → (er' ram' : List ℕ) (e : Deed) → Goes-to (Value p)
       → stepped (effect_in er' pc e) ram' ≡ effect_of (next_of pc n) (lent er pc f) b rom ram i → Acts er' ram' (ended_of e.outcome e.condition p (states_of i))
-  ended-acts h er' ram' e = ended-taking (states_of i) er' ram' e (λ _. sym (states-none b.site (lent er pc f) i h))
+  ended_acts h er' ram' e = ended_taking (states_of i) er' ram' e (λ _. sym (states_none b.site (lent er pc f) i h))
 
   -- the address where it goes could not be read
-  pub unread-acts : (x : Refusal) → Goes-to (NotRead x) → Acts er ram (turn f 0 0 (Refused x))
+  pub unread_acts : (x : Refusal) → Goes-to (NotRead x) → Acts er ram (turn f 0 0 (Refused x))
   unfolding act_of obey_of carry_of
-  unread-acts x w = rw w (ap (λ (a : StepAnswer). after a ram) (refused_stays er pc f x))
+  unread_acts x w = rw w (ap (λ (a : StepAnswer). after a ram) (refused_stays er pc f x))
 
 -- what a loop over turns asks
 pub told_done : (er : List ℕ) (pc : ℕ) (t : Turn) → t.outcome ≡ Done → told_in er pc t ≡ answered (lent er (pc_of t.pc) t.condition) t.states Done

@@ -14,7 +14,7 @@ use Rattle.memory.specs.declared.Board.{Board}
 use Rattle.memory.specs.declared.told.Access.{Access}
 use Rattle.memory.specs.declared.Got.{Got}
 use Rattle.memory.specs.declared.Got.TheVariants.{Value, NotRead}
-use Rattle.memory.proofs.Trails.{touch_under, call_is, none_told, told-behind}
+use Rattle.memory.proofs.Trails.{touch_under, call_is, none_told, told_behind}
 use Rattle.timing.specs.Made.{made_at, writes, sum_of, base_of}
 use Rattle.moves.specs.Made.{where_of, gathered, made_of, trail_of, states_at}
 use Rattle.codes.specs.Cycles.{Touch, touches_of}
@@ -82,9 +82,9 @@ module _ (r : Registers) where
   abbrev made : Touch → List Access
   made t = made_at t.dir t.width (where_of r t)
 
-  call-made : (t : Touch) → call_in (number t) ≡ made t
+  call_made : (t : Touch) → call_in (number t) ≡ made t
   unfolding made_at
-  call-made t = call_is (writes t.dir) t.width (where_of r t)
+  call_made t = call_is (writes t.dir) t.width (where_of r t)
 
   under : (t : Touch) → number t < 134217728
   under t = touch_under (writes t.dir) t.width (where_of r t)
@@ -92,27 +92,27 @@ module _ (r : Registers) where
   first : (t : Touch) → noted 0 (number t) ≡ number t
   first t = omega arith
 
-  few-made : {ts : List Touch} → Few ts → trail_in (trail_of r 0 ts) ≡ gathered r ts
-  few-made no_touch = none_told
-  few-made (one_touch t) =
-      let e : call_in 0 ++ call_in (number t) ≡ made t ++ [] = rw (none_called, call-made t, append-nil) in
-      told-behind 0 (number t) (omega arith) (under t) ∙ e
-  few-made (two_touches t u) =
-      let e : call_in (number t) ++ call_in (number u) ≡ made t ++ (made u ++ []) = rw (call-made t, call-made u, append-nil) in
-      ap (λ (n : ℕ). trail_in (noted n (number u))) (first t) ∙ told-behind (number t) (number u) (under t) (under u) ∙ e
+  few_made : {ts : List Touch} → Few ts → trail_in (trail_of r 0 ts) ≡ gathered r ts
+  few_made no_touch = none_told
+  few_made (one_touch t) =
+      let e : call_in 0 ++ call_in (number t) ≡ made t ++ [] = rw (none_called, call_made t, append-nil) in
+      told_behind 0 (number t) (omega arith) (under t) ∙ e
+  few_made (two_touches t u) =
+      let e : call_in (number t) ++ call_in (number u) ≡ made t ++ (made u ++ []) = rw (call_made t, call_made u, append-nil) in
+      ap (λ (n : ℕ). trail_in (noted n (number u))) (first t) ∙ told_behind (number t) (number u) (under t) (under u) ∙ e
 
-  trail-by : (d : Decoded) → trail_in (trail_of r 0 (touched_by d)) ≡ made_by d r
-  trail-by (Code i n) = few-made (few i)
-  trail-by (NoCode f) = none_told
+  trail_by : (d : Decoded) → trail_in (trail_of r 0 (touched_by d)) ≡ made_by d r
+  trail_by (Code i n) = few_made (few i)
+  trail_by (NoCode f) = none_told
 
 -- the list that is unpacked is the list of the step
 module _ (b : Board) (rom ram : List ℕ) (r : Registers) (a : StepAnswer) (ram' : List ℕ) (s : after a ram' ≡ step_of b rom ram r) where
-  pub told-list : (t : ℕ) (l : Listed) → (a.outcome ≡ Done → t ≡ trail_at rom r) → list_in l ≡ listed a.outcome (trail_in t) → list_in l ≡ list_of b rom ram r
+  pub told_list : (t : ℕ) (l : Listed) → (a.outcome ≡ Done → t ≡ trail_at rom r) → list_in l ≡ listed a.outcome (trail_in t) → list_in l ≡ list_of b rom ram r
   unfolding list_of listed
-  told-list t l h e = e ∙ go a.outcome refl ∙ ap (λ (x : After). listed x.answer.outcome (made_by (decode_of r.pc (drop r.pc rom)) r)) s
+  told_list t l h e = e ∙ go a.outcome refl ∙ ap (λ (x : After). listed x.answer.outcome (made_by (decode_of r.pc (drop r.pc rom)) r)) s
     where
       go : (o : Outcome) → a.outcome ≡ o → listed o (trail_in t) ≡ listed o (made_by (decode_of r.pc (drop r.pc rom)) r)
-      go Done d = ap (λ (n : ℕ). trail_in n) (h d) ∙ trail-by r (decode_of r.pc (drop r.pc rom))
+      go Done d = ap (λ (n : ℕ). trail_in n) (h d) ∙ trail_by r (decode_of r.pc (drop r.pc rom))
       go (Refused f) d = refl
 
 -- ---- the step at PC
@@ -124,13 +124,13 @@ pub record At (d : Decoded) (b : Board) (rom ram : List ℕ) (r : Registers) : T
   pub is : decode_of r.pc (drop r.pc rom) ≡ d
 
 module _ {b : Board} {rom ram : List ℕ} {r : Registers} {d : Decoded} (h : At d b rom ram r) where
-  pub at-step : step_of b rom ram r ≡ act_of d r b rom ram
+  pub at_step : step_of b rom ram r ≡ act_of d r b rom ram
   unfolding step_of fetch_of
-  at-step = rw (h.good, h.within, h.is)
+  at_step = rw (h.good, h.within, h.is)
 
-  pub at-list : list_of b rom ram r ≡ listed (act_of d r b rom ram).answer.outcome (made_by d r)
+  pub at_list : list_of b rom ram r ≡ listed (act_of d r b rom ram).answer.outcome (made_by d r)
   unfolding list_of
-  at-list = rw (at-step, h.is)
+  at_list = rw (at_step, h.is)
 
 -- ---- a completed step, and its states
 
@@ -146,21 +146,21 @@ module _ (b : Board) (rom ram : List ℕ) (r : Registers) where
       go true false d g l h = let k = rw (g, l) at e in let z : ◌≡◌ {A = ℕ} 0 1 = cc in absurd (omega arith)
       go false u d g l h = let k = rw g at e in let z : ◌≡◌ {A = ℕ} 0 1 = cc in absurd (omega arith)
 
-  finish-states : (o : Outcome) (q : Registers) (p n : ℕ) → (finish_of o r q p n).outcome ≡ Done → (finish_of o r q p n).states ≡ n
+  finish_states : (o : Outcome) (q : Registers) (p n : ℕ) → (finish_of o r q p n).outcome ≡ Done → (finish_of o r q p n).states ≡ n
   unfolding finish_of
-  finish-states Done q p n e = refl
-  finish-states (Refused f) q p n e = let z : ◌≡◌ {A = ℕ} 0 1 = cc in absurd (omega arith)
+  finish_states Done q p n e = refl
+  finish_states (Refused f) q p n e = let z : ◌≡◌ {A = ℕ} 0 1 = cc in absurd (omega arith)
 
-  carry-states : (g : Got) (i : Instruction) (next : ℕ) → (carry_of g i next r b rom ram).answer.outcome ≡ Done
+  carry_states : (g : Got) (i : Instruction) (next : ℕ) → (carry_of g i next r b rom ram).answer.outcome ≡ Done
       → (carry_of g i next r b rom ram).answer.states ≡ states_at b.site r i
   unfolding carry_of
-  carry-states (Value p) i next e = finish-states _ _ p _ e
-  carry-states (NotRead f) i next e = let z : ◌≡◌ {A = ℕ} 0 1 = cc in absurd (omega arith)
+  carry_states (Value p) i next e = finish_states _ _ p _ e
+  carry_states (NotRead f) i next e = let z : ◌≡◌ {A = ℕ} 0 1 = cc in absurd (omega arith)
 
-  act-states : (i : Instruction) (n : ℕ) → (act_of (Code i n) r b rom ram).answer.outcome ≡ Done
+  act_states : (i : Instruction) (n : ℕ) → (act_of (Code i n) r b rom ram).answer.outcome ≡ Done
       → (act_of (Code i n) r b rom ram).answer.states ≡ base_of i + sum_of b.site (listed (act_of (Code i n) r b rom ram).answer.outcome (made_of r i))
   unfolding act_of obey_of states_at listed
-  act-states i n e = carry-states _ i _ e ∙ rw e
+  act_states i n e = carry_states _ i _ e ∙ rw e
 
   -- the states of a completed step are its fetch and internal states, and the sum over its list
   step_sum : (i : Instruction) (n : ℕ) → decode_of r.pc (drop r.pc rom) ≡ Code i n → (step_of b rom ram r).answer.outcome ≡ Done
@@ -168,10 +168,10 @@ module _ (b : Board) (rom ram : List ℕ) (r : Registers) where
   step_sum i n d e =
       let (j, m, h) = done_at e in
       let k : j ≡ i = cc (h.is, d) in
-      rw (at-list h, at-step h) (act-states j m (rw (at-step h) at e) ∙ rw k)
+      rw (at_list h, at_step h) (act_states j m (rw (at_step h) at e) ∙ rw k)
 
-  pub told-sum : (q : Watched) (ram' : List ℕ) → after q.answer ram' ≡ step_of b rom ram r → list_in q.list ≡ list_of b rom ram r → Summed b rom r q
-  told-sum q ram' h l i n d e =
+  pub told_sum : (q : Watched) (ram' : List ℕ) → after q.answer ram' ≡ step_of b rom ram r → list_in q.list ≡ list_of b rom ram r → Summed b rom r q
+  told_sum q ram' h l i n d e =
       let s : q.answer ≡ (step_of b rom ram r).answer = ap (λ (a : After). a.answer) h in
       rw (s, l) (step_sum i n d (rw s at e))
 

@@ -14,24 +14,24 @@ unfolding asked_of
 look_spec =
     tie.close
     (tie.spec (λ c κs. search rules)
-    (λ c. rw (off c.before.could-carry.ensures c.if1.true))
+    (λ c. rw (off c.before.could_carry_lem.ensures c.if1.true))
     (λ c.
     let l = c.before in
     let a = l.before.before.before.args in
-    simp (on l.before.could-carry.ensures l.if1.false, ne_eqb (a.entry % 2) 0 (omega arith)))
+    simp (on l.before.could_carry_lem.ensures l.if1.false, ne_eqb (a.entry % 2) 0 (omega arith)))
     (λ c.
     let l = c.before.before in
     let a = l.before.before.before.args in
-    simp (on l.before.could-carry.ensures l.if1.false, eq-eqb (a.entry % 2) 0 (omega arith), le-ltb a.entry (length a.rom.now) (omega arith)))
+    simp (on l.before.could_carry_lem.ensures l.if1.false, eq-eqb (a.entry % 2) 0 (omega arith), le-ltb a.entry (length a.rom.now) (omega arith)))
     (λ c.
     let l = c.before.before.before in
     let a = l.before.before.before.args in
-    omega (arith, small a.k (length a.rom.now) (on l.before.could-carry.ensures l.if1.false)))
+    omega (arith, small a.k (length a.rom.now) (on l.before.could_carry_lem.ensures l.if1.false)))
     (λ c.
     let l = c.before.before.before in
     let a = l.before.before.before.args in
-    simp (on l.before.could-carry.ensures l.if1.false, eq-eqb (a.entry % 2) 0 (omega arith), lt-ltb a.entry (length a.rom.now) (omega arith), lt-leb (length a.rom.now) a.lent (omega arith)))
+    simp (on l.before.could_carry_lem.ensures l.if1.false, eq-eqb (a.entry % 2) 0 (omega arith), lt-ltb a.entry (length a.rom.now) (omega arith), lt-leb (length a.rom.now) a.lent (omega arith)))
     (λ c.
     let l = c.before.before.before in
     let a = l.before.before.before.args in
-    simp (on l.before.could-carry.ensures l.if1.false, eq-eqb (a.entry % 2) 0 (omega arith), lt-ltb a.entry (length a.rom.now) (omega arith), le-leb (length a.rom.now) a.lent (omega arith))))
+    simp (on l.before.could_carry_lem.ensures l.if1.false, eq-eqb (a.entry % 2) 0 (omega arith), lt-ltb a.entry (length a.rom.now) (omega arith), le-leb (length a.rom.now) a.lent (omega arith))))

@@ -11,4 +11,4 @@ far_spec =
     (tie.spec (λ c. search rules)
     (λ c. law.high_fits 16 32768 c.before.args.d refl refl (omega arith) (omega arith) (omega arith))
     (λ c. law.low_signed 16 32768 c.before.args.d refl refl (omega arith) (omega arith))
-    (λ c. law.high-signed 16 32768 c.before.args.d refl refl (omega arith) (omega arith) (omega arith)))
+    (λ c. law.high_signed 16 32768 c.before.args.d refl refl (omega arith) (omega arith) (omega arith)))

@@ -11,4 +11,4 @@ near_spec =
     (tie.spec (λ c. search rules)
     (λ c. law.high_fits 8 128 c.before.args.d refl refl (omega arith) (omega arith) (omega arith))
     (λ c. law.low_signed 8 128 c.before.args.d refl refl (omega arith) (omega arith))
-    (λ c. law.high-signed 8 128 c.before.args.d refl refl (omega arith) (omega arith) (omega arith)))
+    (λ c. law.high_signed 8 128 c.before.args.d refl refl (omega arith) (omega arith) (omega arith)))

@@ -17,7 +17,7 @@ target_spec =
     (λ c. search rules)
     (λ c. let d = c.displacement in let s = c.before in law.by_fits s.args.next d.result (omega arith) d.ensures.1)
     (λ c. let d = c.displacement in let s = c.before in law.sum_fits s.args.next d.result (omega arith) d.ensures.1)
-    (λ c. let d = c.displacement in let s = c.before in law.raised-fits s.args.next d.result (omega arith) d.ensures.1)
+    (λ c. let d = c.displacement in let s = c.before in law.raised_fits s.args.next d.result (omega arith) d.ensures.1)
     (λ c. let d = c.displacement in let s = c.before in law.read_fits s.args.next d.result (omega arith) d.ensures.1)
     (λ c. search rules)
     (λ c κs. search rules)

@@ -6,7 +6,7 @@ use lib.ListN.{length, drop}
 use borrow.Author.Rules.{rules}
 use Rattle.left.specs.Left.{agrees}
 use Rattle.left.specs.MirrorTable.{patterns_in}
-use Rattle.left.proofs.Table.{differs, goes_on, all-gone, tests}
+use Rattle.left.proofs.Table.{differs, goes_on, all_gone, tests}
 use Rattle.left.proofs.agrees.Statement.{statement}
 use Rattle.left.proofs.agrees.Tie as tie
 
@@ -44,7 +44,7 @@ returns_2 : tie.Need-returns-2 invariant_loop decreases_loop
 returns_2 c =
     let l = c.before in
     let a = l.before.before.before.args in
-    sym (all-gone a.s.now l.before.wide.result l.loop.j l.loop.a l.loop.b c.loop-test.false) ∙ l.loop.invariant.2
+    sym (all_gone a.s.now l.before.wide.result l.loop.j l.loop.a l.loop.b c.loop-test.false) ∙ l.loop.invariant.2
 
 pub agrees_spec : {M : Type 1} → statement M
 agrees_spec =

@@ -6,7 +6,7 @@ use native.Mathlib.Omega.{arith}
 use borrow.Author.Rules.{rules}
 use lib.ListN.{length}
 use Rattle.listing.specs.Listing.{flow_at}
-use Rattle.levels.proofs.Turns.{none_left, level-below, no_row, at_first, ready, halves}
+use Rattle.levels.proofs.Turns.{none_left, level_below, no_row, at_first, ready, halves}
 use borrow.Fn.Kinds.{In}
 use borrow.Fn.PlainCycle.{Measures, is, falls, and}
 use Rattle.levels.proofs.call_cost.Reads as call-cost
@@ -94,7 +94,7 @@ call_cost_returns_2 : (t : ℕ) → call-cost-lts.Need-returns-2 (
   path_cost_below t,
   path-cost.Post,
 ) (call_cost_at t) call-cost.Post
-call_cost_returns_2 t c = let s = c.before.before.before.before.before.before.before in level-below (flow_at s.args.k s.args.rom.now) (length s.args.rom.now) (omega (arith, s.requires.1.even)) (omega arith) c.before.before.path-cost.ensures
+call_cost_returns_2 t c = let s = c.before.before.before.before.before.before.before in level_below (flow_at s.args.k s.args.rom.now) (length s.args.rom.now) (omega (arith, s.requires.1.even)) (omega arith) c.before.before.path-cost.ensures
 
 path_cost_call_cost_requires : (t : ℕ) → path-cost-lts.Need-call-cost-requires (
   call_cost_below t,

@@ -10,9 +10,9 @@ use Rattle.listing.specs.Listing.{flow_at}
 use Rattle.listing.proofs.Listed.{listing}
 use Rattle.paths.specs.declared.Flow.{Flow}
 use Rattle.paths.specs.MirrorPacked.{notes_of}
-use Rattle.paths.proofs.Table.{stored-length, stored-rest}
+use Rattle.paths.proofs.Table.{stored_length, stored_rest}
 use Rattle.levels.specs.Levels.{Rest, NotedFrom}
-use Rattle.levels.proofs.Turns.{one-note}
+use Rattle.levels.proofs.Turns.{one_note}
 use Rattle.levels.proofs.note.Statement.{statement}
 use Rattle.levels.proofs.note.Tie as tie
 
@@ -37,10 +37,10 @@ loop_again c =
     let L = listing s.args.k rom (bytes_of rom (λ k. omega (arith, b.shared-slice-known.given k))) g.even g.small in (
       omega arith,
       omega arith,
-      stored-length l.table (l.p - 2) w.to w.on ∙ i.2,
-      one-note (flow_at s.args.k rom) (length rom) L l.table (l.p - 2) (omega arith) (omega arith) (omega (arith, g.room, i.2)) w
+      stored_length l.table (l.p - 2) w.to w.on ∙ i.2,
+      one_note (flow_at s.args.k rom) (length rom) L l.table (l.p - 2) (omega arith) (omega arith) (omega (arith, g.room, i.2)) w
           (c.noted.ensures ∙ ap (λ (f : Flow). notes_of f) c.before.glance.ensures) (λ q h. i.3 q (omega arith)),
-      (λ j h. stored-rest l.table (l.p - 2) w.to w.on _ (omega arith) j h ∙ i.4 j h),
+      (λ j h. stored_rest l.table (l.p - 2) w.to w.on _ (omega arith) j h ∙ i.4 j h),
     )
 
 returns : tie.Need-returns invariant_loop decreases_loop

@@ -9,7 +9,7 @@ use Rattle.site.specs.declared.Site.{Site}
 use Rattle.listing.specs.Listing.{flow_at}
 use Rattle.listing.proofs.Listed.{listing}
 use Rattle.levels.specs.Levels.{Ready, Reached}
-use Rattle.levels.proofs.Turns.{at_first, from-higher, one_row, row_small}
+use Rattle.levels.proofs.Turns.{at_first, from_higher, one_row, row_small}
 use Rattle.levels.proofs.stretch.Statement.{statement}
 use Rattle.levels.proofs.stretch.Tie as tie
 
@@ -62,7 +62,7 @@ add_table c =
 returns : tie.Need-returns invariant_loop decreases_loop
 returns c =
     let s = c.before.before.before.before in
-    from-higher (flow_at s.args.k s.args.rom.now) (length s.args.rom.now) (omega (arith, s.requires.0.1)) (c.before.loop.invariant.4 s.args.k s.requires.1)
+    from_higher (flow_at s.args.k s.args.rom.now) (length s.args.rom.now) (omega (arith, s.requires.0.1)) (c.before.loop.invariant.4 s.args.k s.requires.1)
 
 pub stretch_spec : {M : Type 1} → statement M
 stretch_spec =

@@ -10,7 +10,7 @@ use borrow.Author.Rules.{rules}
 use Rattle.paths.specs.declared.Reckoned.{Reckoned}
 use Rattle.paths.specs.MirrorRows.{level_of, shown_of}
 use Rattle.paths.proofs.Laws.{le_or}
-use Rattle.paths.proofs.Table.{stored, stored-length, stored-rest, stored-before, stored_at, stored-above}
+use Rattle.paths.proofs.Table.{stored, stored_length, stored_rest, stored_before, stored_at, stored_above}
 use Rattle.levels.specs.Levels.{Rest, ShownFrom}
 use Rattle.levels.proofs.unpack.Statement.{statement}
 use Rattle.levels.proofs.unpack.Tie as tie
@@ -40,7 +40,7 @@ module _ (len : ℕ) (t t₀ : List ℕ) (p : ℕ) (r : Reckoned) where
       let at = stored_at t (p - 2) r.figure r.low (omega arith) in
       rw z (at.0 ∙ ap (λ (v : Reckoned). v.figure) i, at.1 ∙ ap (λ (v : Reckoned). v.low) i))
       (λ (y : p - 2 < q). let at = R q (omega arith) x l in
-      (stored-above t (p - 2) r.figure r.low q (omega arith) ∙ at.0, stored-above t (p - 2) r.figure r.low (q + 1) (omega arith) ∙ at.1))
+      (stored_above t (p - 2) r.figure r.low q (omega arith) ∙ at.0, stored_above t (p - 2) r.figure r.low (q + 1) (omega arith) ∙ at.1))
       (le_or q (p - 2))
 
 loop_again : tie.Need-loop-preserved invariant_loop decreases_loop
@@ -51,10 +51,10 @@ loop_again c =
     let r = c.shown.result in (
       omega arith,
       omega arith,
-      stored-length l.table (l.p - 2) r.figure r.low ∙ i.2,
+      stored_length l.table (l.p - 2) r.figure r.low ∙ i.2,
       again s.before.args.len l.table s.before.args.table.now l.p r (omega arith) i.1 (omega (arith, s.before.requires.room, i.2)) (c.shown.ensures ∙ ap (λ (z : Reckoned). shown_of (l.p - 2) z) c.before.level-row.ensures) i.3 (i.4 (l.p - 2) (omega arith)),
-      (λ j h. stored-before l.table (l.p - 2) r.figure r.low j (omega arith) ∙ i.4 j (omega arith)),
-      (λ j h. stored-rest l.table (l.p - 2) r.figure r.low _ (omega arith) j h ∙ i.5 j h),
+      (λ j h. stored_before l.table (l.p - 2) r.figure r.low j (omega arith) ∙ i.4 j (omega arith)),
+      (λ j h. stored_rest l.table (l.p - 2) r.figure r.low _ (omega arith) j h ∙ i.5 j h),
     )
 
 returns : tie.Need-returns invariant_loop decreases_loop

@@ -13,7 +13,7 @@ use Rattle.timing.specs.Made.{base_of, most_of}
 use Rattle.paths.specs.declared.Flow.{Flow}
 use Rattle.paths.specs.declared.Flow.TheVariants.{Next}
 use Rattle.listing.specs.Listing.{found_flow, goes_flow}
-use Rattle.listing.proofs.Counted.{goes_none, goes-move, goes-read, goes-written, goes-jump, goes_near, goes-call}
+use Rattle.listing.proofs.Counted.{goes_none, goes_move, goes_read, goes_written, goes_jump, goes_near, goes_call}
 use borrow.Author.Rules.{rules}
 use Rattle.listing.proofs.found.Statement.{statement}
 use Rattle.listing.proofs.found.Tie as tie
@@ -69,19 +69,19 @@ found_spec =
     (λ c.
     let l = c.before.before.before in
     let a = l.before.before.before.args in
-    goes-read a.k a.p a.n l.i4.given.1 c.before.read-bit.ensures l.before.before.next.ensures c.onward4.ensures)
+    goes_read a.k a.p a.n l.i4.given.1 c.before.read-bit.ensures l.before.before.next.ensures c.onward4.ensures)
     (λ c.
     let l = c.before.before.before in
     let a = l.before.before.before.args in
-    goes-written a.k a.p a.n l.i5.given.1 c.before.written-bit.ensures l.before.before.next.ensures c.onward5.ensures)
+    goes_written a.k a.p a.n l.i5.given.1 c.before.written-bit.ensures l.before.before.next.ensures c.onward5.ensures)
     (λ c.
     let l = c.before.before.before in
     let a = l.before.before.before.args in
-    goes-move a.k a.p a.n l.i6.given.1 c.before.moved.ensures l.before.before.next.ensures c.onward6.ensures)
+    goes_move a.k a.p a.n l.i6.given.1 c.before.moved.ensures l.before.before.next.ensures c.onward6.ensures)
     (λ c. let l = c.before.before.before in simp (l.reach.given.1, l.before.before.before.i7.given.1, c.branch.ensures, c.before.target.ensures, l.before.before.before.before.before.next.ensures))
     (λ c. let l = c.before.before.before in simp (l.reach2.given.1, l.before.before.before.i7.given.1, c.branch2.ensures, c.before.target2.ensures, l.before.before.before.before.before.next.ensures))
-    (λ c. let a = c.before.before.before.before.before.args in goes-jump a.k a.p a.n c.before.before.i8.given.1 c.jump.ensures)
+    (λ c. let a = c.before.before.before.before.before.args in goes_jump a.k a.p a.n c.before.before.i8.given.1 c.jump.ensures)
     (λ c. let l = c.before.before in let a = l.before.before.before.args in goes_near a.k a.p a.n l.i9.given.1 l.before.before.next.ensures c.near-Call.ensures)
-    (λ c. let l = c.before.before in let a = l.before.before.before.args in goes-call a.k a.p a.n l.i10.given.1 l.before.before.next.ensures c.call.ensures)
+    (λ c. let l = c.before.before in let a = l.before.before.before.args in goes_call a.k a.p a.n l.i10.given.1 l.before.before.next.ensures c.call.ensures)
     (λ c. rw c.before.enum_told.given.1 c.returns.ensures)
     (λ c. let a = c.before.before.before.args in two a.k a.p a.n a.i c.before.match.keys12 c.before.before.next.ensures c.onward7.ensures))

@@ -1,4 +1,4 @@
-use Rattle.listing.proofs.Counted.{call_near, call-far}
+use Rattle.listing.proofs.Counted.{call_near, call_far}
 use borrow.Author.Rules.{rules}
 use Rattle.listing.proofs.near_call.Statement.{statement}
 use Rattle.listing.proofs.near_call.Tie as tie
@@ -16,4 +16,4 @@ near_call_spec =
     (λ c. search rules)
     (λ c. search rules)
     (λ c. let b = c.before.before in rw (b.reach.given.1, c.target.ensures, b.before.before.dearest.ensures.0, call_near))
-    (λ c. let b = c.before.before in rw (b.reach2.given.1, c.target2.ensures, b.before.before.dearest.ensures.0, call-far)))
+    (λ c. let b = c.before.before in rw (b.reach2.given.1, c.target2.ensures, b.before.before.dearest.ensures.0, call_far)))

@@ -1,6 +1,6 @@
 use Rattle.replay.specs.Cuts.{took}
 use mathlib.Core.Path.{sym, ◌∙◌, ap}
-use Rattle.replay.proofs.Cut.{late, in-time}
+use Rattle.replay.proofs.Cut.{late, in_time}
 use Rattle.replay.specs.Replay.{Moment, moment}
 use borrow.Author.Rules.{rules}
 use Rattle.replay.proofs.deliver.Statement.{statement}
@@ -33,7 +33,7 @@ same_length c = search rules
 
 -- src/lib.rt:322:1
 returns_2 : tie.Need-returns-2
-returns_2 c = let a = c.before.before.before.before.before.before.before.before.before.before.args in rw c.said_of.ensures (ap (λ (s : Moment). took a.b a.rom.now s) c.before.before.before.feed.ensures ∙ sym (in-time a.b a.rom.now a.k.stage (moment a.k a.ram.now) a.bytes.now (sym c.before.before.before.before.before.before.over.ensures ∙ c.before.before.before.before.before.if1.false)))
+returns_2 c = let a = c.before.before.before.before.before.before.before.before.before.before.args in rw c.said_of.ensures (ap (λ (s : Moment). took a.b a.rom.now s) c.before.before.before.feed.ensures ∙ sym (in_time a.b a.rom.now a.k.stage (moment a.k a.ram.now) a.bytes.now (sym c.before.before.before.before.before.before.over.ensures ∙ c.before.before.before.before.before.if1.false)))
 
 pub deliver_spec : {M : Type 1} → statement M
 deliver_spec =

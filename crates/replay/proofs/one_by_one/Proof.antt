@@ -3,7 +3,7 @@ use mathlib.Core.Path.{◌≡◌, refl, sym, ◌∙◌}
 use borrow.Author.Rules.{rules}
 use lib.ListN.{length, drop}
 use Rattle.replay.specs.Replay.{moment, fed}
-use Rattle.replay.proofs.Bytes.{told-stays, goes_on, no_more}
+use Rattle.replay.proofs.Bytes.{told_stays, goes_on, no_more}
 use Rattle.replay.proofs.one_by_one.Statement.{statement}
 use Rattle.replay.proofs.one_by_one.Tie as tie
 
@@ -45,7 +45,7 @@ same_length_2 : tie.Need-same-length-2 invariant_loop decreases_loop
 same_length_2 c = search rules
 
 returns_2 : tie.Need-returns-2 invariant_loop decreases_loop
-returns_2 c = let a = c.before.before.before.before.before.before.before.args in let s = c.before.before.before.loop in sym (told-stays a.b a.rom.now (moment s.q s.ram) (drop s.i a.bytes.now) (sym c.before.over.ensures ∙ c.if1.true)) ∙ s.invariant.2
+returns_2 c = let a = c.before.before.before.before.before.before.before.args in let s = c.before.before.before.loop in sym (told_stays a.b a.rom.now (moment s.q s.ram) (drop s.i a.bytes.now) (sym c.before.over.ensures ∙ c.if1.true)) ∙ s.invariant.2
 
 pub one_by_one_spec : {M : Type 1} → statement M
 one_by_one_spec =

@@ -14,7 +14,7 @@ use Rattle.routine.specs.Routine.{routineFrom}
 use Rattle.routine.specs.declared.Ending.{Ending}
 use Rattle.routine.specs.declared.Going.TheVariants.{On, Ends}
 use Rattle.routine.proofs.Kept.{Carries, none_carried}
-use Rattle.routine.proofs.Loop.{Again, Last, stops, spent, few-steps, turn-again, turn_last}
+use Rattle.routine.proofs.Loop.{Again, Last, stops, spent, few_steps, turn_again, turn_last}
 use Rattle.routine.proofs.turn.Reads as turn-reads
 use Rattle.routine.proofs.repeat.Reads as reads
 use Rattle.routine.proofs.repeat.Lts as lts
@@ -38,7 +38,7 @@ one_step : (c : Met) → c.turn.result.steps ≤ 1
 one_step c =
     let a = c.before.before.before.before.before.before.before.before.args in
     let s = c.before.before.before.before.before.loop in
-    few-steps a.b a.rom.now a.stop s.ram s.q s.invariant.4.0 s.steps s.states s.auto s.count s.invariant.4.1 a.budget s.invariant.1 c.before.before.if2.false s.invariant.3 c.before.before.before.if1.false c.turn.result _ c.turn.ensures
+    few_steps a.b a.rom.now a.stop s.ram s.q s.invariant.4.0 s.steps s.states s.auto s.count s.invariant.4.1 a.budget s.invariant.1 c.before.before.if2.false s.invariant.3 c.before.before.before.if1.false c.turn.result _ c.turn.ensures
 
 goes : (c : Met) → c.turn.result.going ≡ On → (
     let a = c.before.before.before.before.before.before.before.before.args in
@@ -47,7 +47,7 @@ goes : (c : Met) → c.turn.result.going ≡ On → (
 goes c =
     let a = c.before.before.before.before.before.before.before.before.args in
     let s = c.before.before.before.before.before.loop in
-    turn-again a.b a.rom.now a.stop s.ram s.q s.invariant.4.0 s.steps s.states s.auto s.count s.invariant.4.1 a.budget s.invariant.1 c.before.before.if2.false s.invariant.3 c.before.before.before.if1.false c.turn.result _ c.turn.ensures
+    turn_again a.b a.rom.now a.stop s.ram s.q s.invariant.4.0 s.steps s.states s.auto s.count s.invariant.4.1 a.budget s.invariant.1 c.before.before.if2.false s.invariant.3 c.before.before.before.if1.false c.turn.result _ c.turn.ensures
 
 stays : (c : Met) (why : Ending) → c.turn.result.going ≡ Ends why → (
     let a = c.before.before.before.before.before.before.before.before.args in
@@ -87,10 +87,10 @@ loop_again c =
     let m = c.before.before.before.before.before.before.before.before in
     let s = m.before.before.before.before.before.loop in
     let g = goes m c.enum_told.given.1 in (
-      g.length-stays ∙ s.invariant.0,
+      g.length_stays ∙ s.invariant.0,
       omega (arith, g.one, s.invariant.1, m.before.before.if2.false),
       omega (arith, g.one, s.invariant.2),
-      g.still-good,
+      g.still_good,
       (g.xs, g.carries, sym g.goes ∙ s.invariant.4.2),
     )
 
@@ -113,10 +113,10 @@ returns_2 c =
     sym (spent a.b a.rom.now a.stop s.ram s.q s.invariant.4.0 s.steps s.states s.auto s.count s.invariant.4.1 a.budget c.before.if1.false c.if2.true) ∙ s.invariant.4.2
 
 same_length_3 : tie.Need-same-length-3 invariant_loop decreases_loop
-same_length_3 c = let m = c.before.before.before.before.before.before.before.before.before in (stays m _ c.before.going.given.1).length-kept ∙ m.before.before.before.before.before.loop.invariant.0
+same_length_3 c = let m = c.before.before.before.before.before.before.before.before.before in (stays m _ c.before.going.given.1).length_kept ∙ m.before.before.before.before.before.loop.invariant.0
 
 returns_3 : tie.Need-returns-3 invariant_loop decreases_loop
-returns_3 c = let m = c.before.before.before.before.before.before.before.before.before in sym (stays m _ c.before.going.given.1).told-as ∙ m.before.before.before.before.before.loop.invariant.4.2
+returns_3 c = let m = c.before.before.before.before.before.before.before.before.before in sym (stays m _ c.before.going.given.1).told_as ∙ m.before.before.before.before.before.loop.invariant.4.2
 
 pub repeat_spec : {M : Type 1} → statement M
 repeat_spec =

@@ -15,10 +15,10 @@ use Rattle.step.specs.Step.{After, after, answered, act_of, good_pc, fetch_of}
 use Rattle.turns.specs.MirrorTurn.{told_in}
 use Rattle.turns.proofs.Laws.{refused_stays, no_turn}
 use Rattle.run.specs.MirrorTrail.{trail_at, Last}
-use Rattle.run.proofs.Quiet.{quiet-counted, quiet-turned, quiet-turned-long}
+use Rattle.run.proofs.Quiet.{quiet_counted, quiet_turned, quiet_turned_long}
 use Rattle.run.specs.MirrorKept.{Keeps}
 use Rattle.run.specs.MirrorAlong.{alongFrom}
-use Rattle.run.proofs.Turns.{no_kind, outside, by-kind, by-trail, step_is, as_done, not_stopped, not_halted, turn-done, turn-refused, same-registers, same_memory, pc_fits, stops, spent, strayed, length-kept, still-good, goes_on, refused}
+use Rattle.run.proofs.Turns.{no_kind, outside, by_kind_lem, by_trail, step_is, as_done, not_stopped, not_halted, turn_done, turn_refused, same_registers, same_memory, pc_fits, stops, spent, strayed, length_kept, still_good, goes_on, refused}
 use Rattle.run.proofs.beside.strays.Reads as strays-reads
 use Rattle.run.proofs.kept.look.Reads as look-reads
 use Rattle.execute.proofs.reg_byte.Reads as reg-byte-reads
@@ -32,8 +32,8 @@ use Rattle.execute.proofs.turned.Reads as turned-reads
 use Rattle.execute.proofs.turned_long.Reads as turned-long-reads
 use Rattle.transfer.proofs.single.Reads as single-Reads
 use Rattle.transfer.proofs.moving.byte.Reads as byte-Reads
-use Rattle.transfer.proofs.moving.word.Reads as word-reads
-use Rattle.transfer.proofs.moving.long.Reads as long-reads
+use Rattle.transfer.proofs.moving.word.Reads as word_reads
+use Rattle.transfer.proofs.moving.long.Reads as long_reads
 use Rattle.execute.proofs.branch_near.Reads as branch-near-reads
 use Rattle.execute.proofs.branch_far.Reads as branch-far-reads
 use Rattle.transfer.proofs.jump.Reads as jump-reads
@@ -58,7 +58,7 @@ decreases_loop b rom lines₀ ram₀ stop budget records before er₀ pc₀ f₀
 
 -- where the arms of the match meet
 abbrev Met : Type 0
-Met = lts.At-match-branch (strays-reads.Asked, strays-reads.Learnt, look-reads.Asked, look-reads.Learnt, reg-byte-reads.Asked, reg-byte-reads.Learnt, reg-word-reads.Asked, reg-word-reads.Learnt, reg-long-reads.Asked, reg-long-reads.Learnt, imm-byte-reads.Asked, imm-byte-reads.Learnt, imm-word-reads.Asked, imm-word-reads.Learnt, imm-long-reads.Asked, imm-long-reads.Learnt, counted-reads.Asked, counted-reads.Learnt, turned-reads.Asked, turned-reads.Learnt, turned-long-reads.Asked, turned-long-reads.Learnt, single-Reads.Asked, single-Reads.Learnt, byte-Reads.Asked, byte-Reads.Learnt, word-reads.Asked, word-reads.Learnt, long-reads.Asked, long-reads.Learnt, branch-near-reads.Asked, branch-near-reads.Learnt, branch-far-reads.Asked, branch-far-reads.Learnt, jump-reads.Asked, jump-reads.Learnt, take-reads.Asked, take-reads.Learnt, give-reads.Asked, give-reads.Learnt, take-at-reads.Asked, take-at-reads.Learnt, give-at-reads.Asked, give-at-reads.Learnt, refuse-reads.Asked, refuse-reads.Learnt, pc-reads.Asked, pc-reads.Learnt) reads.Pre reads.Post invariant_loop decreases_loop
+Met = lts.At-match-branch (strays-reads.Asked, strays-reads.Learnt, look-reads.Asked, look-reads.Learnt, reg-byte-reads.Asked, reg-byte-reads.Learnt, reg-word-reads.Asked, reg-word-reads.Learnt, reg-long-reads.Asked, reg-long-reads.Learnt, imm-byte-reads.Asked, imm-byte-reads.Learnt, imm-word-reads.Asked, imm-word-reads.Learnt, imm-long-reads.Asked, imm-long-reads.Learnt, counted-reads.Asked, counted-reads.Learnt, turned-reads.Asked, turned-reads.Learnt, turned-long-reads.Asked, turned-long-reads.Learnt, single-Reads.Asked, single-Reads.Learnt, byte-Reads.Asked, byte-Reads.Learnt, word_reads.Asked, word_reads.Learnt, long_reads.Asked, long_reads.Learnt, branch-near-reads.Asked, branch-near-reads.Learnt, branch-far-reads.Asked, branch-far-reads.Learnt, jump-reads.Asked, jump-reads.Learnt, take-reads.Asked, take-reads.Learnt, give-reads.Asked, give-reads.Learnt, take-at-reads.Asked, take-at-reads.Learnt, give-at-reads.Asked, give-at-reads.Learnt, refuse-reads.Asked, refuse-reads.Learnt, pc-reads.Asked, pc-reads.Learnt) reads.Pre reads.Post invariant_loop decreases_loop
 
 -- whichever group was called, it left what the step leaves
 turned : (c : Met) → (
@@ -70,7 +70,7 @@ turned c =
     let a = c.before.before.before.before.before.before.before.before.before.before.before.before.before.before.before.before.before.args in
     let s = c.before.before.before.before.before.before.before.before.before.before.loop in
     let e = c.before.before.before.look in
-    let by = by-kind (lent s.er s.pc s.f) a.b a.rom.now s.ram e.result c.before.before.before.before.before.if4.false e.ensures.0 in
+    let by = by_kind_lem (lent s.er s.pc s.f) a.b a.rom.now s.ram e.result c.before.before.before.before.before.if4.false e.ensures.0 in
     ⊎_elim (λ w. simp (w.3, w.4, w.6) (by 0 w.0.keys1 _ (w.2.ensures a.b a.rom.now s.ram)))
     (⊎_elim (λ w. simp (w.3, w.4, w.6) (by 1 w.0.keys2 _ (w.2.ensures a.b a.rom.now s.ram)))
     (⊎_elim (λ w. simp (w.3, w.4, w.6) (by 2 w.0.keys3 _ (w.2.ensures a.b a.rom.now s.ram)))
@@ -105,16 +105,16 @@ trailed c o =
     let s = c.before.before.before.before.before.before.before.before.before.before.loop in
     let e = c.before.before.before.look in
     let r = lent s.er s.pc s.f in
-    let by = by-trail r a.b a.rom.now s.ram e.result c.before.before.before.before.before.if4.false e.ensures.0 in
+    let by = by_trail r a.b a.rom.now s.ram e.result c.before.before.before.before.before.if4.false e.ensures.0 in
     ⊎_elim (λ w. w.5 ∙ by 0 w.0.keys1 _ refl)
     (⊎_elim (λ w. w.5 ∙ by 1 w.0.keys2 _ refl)
     (⊎_elim (λ w. w.5 ∙ by 2 w.0.keys3 _ refl)
     (⊎_elim (λ w. w.5 ∙ by 3 w.0.keys4 _ refl)
     (⊎_elim (λ w. w.5 ∙ by 4 w.0.keys5 _ refl)
     (⊎_elim (λ w. w.5 ∙ by 5 w.0.keys6 _ refl)
-    (⊎_elim (λ w. w.5 ∙ by 6 w.0.keys7 _ (quiet-counted r (e.result % 16) (e.result / 512)))
-    (⊎_elim (λ w. w.5 ∙ by 7 w.0.keys8 _ (quiet-turned r (e.result % 16) (e.result / 512)))
-    (⊎_elim (λ w. w.5 ∙ by 8 w.0.keys9 _ (quiet-turned-long r (e.result % 16) (e.result / 512)))
+    (⊎_elim (λ w. w.5 ∙ by 6 w.0.keys7 _ (quiet_counted r (e.result % 16) (e.result / 512)))
+    (⊎_elim (λ w. w.5 ∙ by 7 w.0.keys8 _ (quiet_turned r (e.result % 16) (e.result / 512)))
+    (⊎_elim (λ w. w.5 ∙ by 8 w.0.keys9 _ (quiet_turned_long r (e.result % 16) (e.result / 512)))
     (⊎_elim (λ w. w.7 ∙ by 9 w.0.keys10 _ (w.4.ensures.1 s.pc (as_done w.8 o)))
     (⊎_elim (λ w. w.9 ∙ by 10 w.0.keys11 _ (w.4.ensures.1 s.pc (as_done w.10 o)))
     (⊎_elim (λ w. w.9 ∙ by 11 w.0.keys12 _ (w.4.ensures.1 s.pc (as_done w.10 o)))
@@ -150,13 +150,13 @@ repeat_spec =
     let r = lent s.er s.pc s.f in
     let t = m.match.t in
     let n = answered (lent m.match.er c.before.pc.result t.condition) t.states Done in
-    let e : after n m.match.ram ≡ fetch_of r a.b a.rom.now s.ram = rw c.before.pc.ensures (turn-done s.er m.match.er s.pc s.f t a.b a.rom.now s.ram m.match.ram (turned m) c.before.before.before.enum_told.given.1) in (
+    let e : after n m.match.ram ≡ fetch_of r a.b a.rom.now s.ram = rw c.before.pc.ensures (turn_done s.er m.match.er s.pc s.f t a.b a.rom.now s.ram m.match.ram (turned m) c.before.before.before.enum_told.given.1) in (
       search (rules, m.before.before.lines.given, s.invariant.0),
-      length-kept a.b a.rom.now a.stop a.records.now s.ram r s.steps s.states s.invariant.5 n m.match.ram e refl ∙ s.invariant.1,
+      length_kept a.b a.rom.now a.stop a.records.now s.ram r s.steps s.states s.invariant.5 n m.match.ram e refl ∙ s.invariant.1,
       omega (arith, s.invariant.2, m.before.before.before.before.before.before.before.before.if2.false),
       omega (arith, s.invariant.3),
       sym (goes_on a.b a.rom.now a.stop a.records.now s.ram r s.steps s.states s.invariant.5 n m.match.ram e a.budget m.before.before.before.before.before.before.before.before.before.if1.false s.invariant.2 m.before.before.before.before.before.before.before.before.if2.false (sym m.before.before.before.before.before.before.before.strays.ensures ∙ m.before.before.before.before.before.before.if3.false) refl) ∙ s.invariant.4,
-      still-good a.b a.rom.now a.stop a.records.now s.ram r s.steps s.states s.invariant.5 n m.match.ram e refl,
+      still_good a.b a.rom.now a.stop a.records.now s.ram r s.steps s.states s.invariant.5 n m.match.ram e refl,
       m.before.before.before.look.ensures.1,
       λ z. absurd (omega (arith, z)),
       λ z.
@@ -201,8 +201,8 @@ repeat_spec =
     let s = m.before.before.before.before.before.before.before.before.before.before.loop in
     let r = lent s.er s.pc s.f in
     let x = c.before.o.given.1 in
-    let e = turn-refused s.er m.match.er s.pc s.f m.match.t a.b a.rom.now s.ram m.match.ram (turned m) _ x in (
-      rw (same-registers s.er m.match.er s.pc s.f m.match.t a.b a.rom.now s.ram m.match.ram (turned m) _ x)
+    let e = turn_refused s.er m.match.er s.pc s.f m.match.t a.b a.rom.now s.ram m.match.ram (turned m) _ x in (
+      rw (same_registers s.er m.match.er s.pc s.f m.match.t a.b a.rom.now s.ram m.match.ram (turned m) _ x)
           (sym (refused a.b a.rom.now a.stop a.records.now s.ram r s.steps s.states s.invariant.5 _ _ e a.budget m.before.before.before.before.before.before.before.before.before.if1.false s.invariant.2 m.before.before.before.before.before.before.before.before.if2.false (sym m.before.before.before.before.before.before.before.strays.ensures ∙ m.before.before.before.before.before.before.if3.false) _ refl) ∙ s.invariant.4),
       λ h n. absurd (not_halted h),
     )))

@@ -4,7 +4,7 @@ use Rattle.step.specs.declared.StepAnswer.{StepAnswer}
 use Rattle.run.specs.Run.{Ran}
 use Rattle.run.proofs.Lines.{none_kept}
 use Rattle.run.proofs.Alone.{alone}
-use Rattle.run.proofs.One.{one, single-is, one_told}
+use Rattle.run.proofs.One.{one, single_is, one_told}
 use borrow.Author.Rules.{rules}
 use Rattle.run.proofs.watched.Statement.{statement}
 use Rattle.run.proofs.watched.Tie as tie
@@ -17,6 +17,6 @@ watched_spec =
     let a = c.before.before.before.before.before.before.before.before.before.before.before.before.args in
     let k = c.before.before.before.before.before.before.start in
     let e = k.ensures.0 ∙ alone a.b a.rom.now 1 1 a.ram.now a.r in (
-      rw c.ended.ensures (ap (λ (x : Ran). one x) e ∙ single-is a.b a.rom.now a.ram.now a.r),
+      rw c.ended.ensures (ap (λ (x : Ran). one x) e ∙ single_is a.b a.rom.now a.ram.now a.r),
       λ o. one_told a.b a.rom.now a.ram.now _ a.r k.result e k.ensures.1 (ap (λ (x : StepAnswer). x.outcome) (sym c.ended.ensures) ∙ o),
     )))

@@ -6,8 +6,8 @@ use Rattle.moves.specs.Moves.{address_of, popped_of}
 use Rattle.codes.specs.declared.Instruction.TheVariants.{Rts}
 use Rattle.step.specs.Follow.{followOf}
 use Rattle.step.specs.Step.{effect_of}
-use Rattle.turns.proofs.Laws.{done-taking, unread-acts, no_turn}
-use Rattle.transfer.proofs.Laws.{rts-takes}
+use Rattle.turns.proofs.Laws.{done_taking, unread_acts, no_turn}
+use Rattle.transfer.proofs.Laws.{rts_takes}
 use borrow.Author.Rules.{rules}
 use Rattle.transfer.proofs.returned.Statement.{statement}
 use Rattle.transfer.proofs.returned.Tie as tie
@@ -18,5 +18,5 @@ returned_spec =
     tie.close
     (tie.spec (λ c κs. search rules) (λ c κs. search rules) (λ c. search rules) (λ c κs. search rules) (λ c. search rules) (λ c κs. search rules)
     (λ c κs. search rules) (λ c. search rules) (λ c κs. search rules)
-    (λ c. (λ pc n. let a = c.before.before.before.before.before.before.before.before.before.before.before.before.before.args in rw c.done.ensures (done-taking Rts n _ a.er.now pc a.f a.b a.rom.now a.ram.now _ (rts-takes a.b.site (lent a.er.now pc a.f) _ (rw (sym c.before.before.before.before.before.before.before.before.before.get.ensures) c.before.before.before.access.ensures.0)) popped_of _ _ (rw (sym c.before.before.before.before.before.before.before.before.before.get.ensures) (sym c.before.before.before.before.before.before.before.read.ensures.0 ∙ c.before.before.before.before.before.p.given.1)) refl c.before.popped.ensures), λ pc o. rw (c.before.before.before.before.before.before.before.before.before.get.ensures, c.before.before.before.before.before.p.given.1) at c.before.before.before.before.before.before.before.read.ensures.1))
-    (λ c. (λ pc n. let a = c.before.before.before.before.before.before.before.before.before.before.args in rw c.refuse.ensures (unread-acts Rts n 0 a.er.now pc a.f a.b a.rom.now a.ram.now _ (rw (sym c.before.before.before.before.before.before.get.ensures) (sym c.before.before.before.before.read.ensures.0 ∙ c.before.before.x.given.1))), λ pc o. absurd (no_turn _ _ _ c.refuse.ensures o))))
+    (λ c. (λ pc n. let a = c.before.before.before.before.before.before.before.before.before.before.before.before.before.args in rw c.done.ensures (done_taking Rts n _ a.er.now pc a.f a.b a.rom.now a.ram.now _ (rts_takes a.b.site (lent a.er.now pc a.f) _ (rw (sym c.before.before.before.before.before.before.before.before.before.get.ensures) c.before.before.before.access.ensures.0)) popped_of _ _ (rw (sym c.before.before.before.before.before.before.before.before.before.get.ensures) (sym c.before.before.before.before.before.before.before.read.ensures.0 ∙ c.before.before.before.before.before.p.given.1)) refl c.before.popped.ensures), λ pc o. rw (c.before.before.before.before.before.before.before.before.before.get.ensures, c.before.before.before.before.before.p.given.1) at c.before.before.before.before.before.before.before.read.ensures.1))
+    (λ c. (λ pc n. let a = c.before.before.before.before.before.before.before.before.before.before.args in rw c.refuse.ensures (unread_acts Rts n 0 a.er.now pc a.f a.b a.rom.now a.ram.now _ (rw (sym c.before.before.before.before.before.before.get.ensures) (sym c.before.before.before.before.read.ensures.0 ∙ c.before.before.x.given.1))), λ pc o. absurd (no_turn _ _ _ c.refuse.ensures o))))

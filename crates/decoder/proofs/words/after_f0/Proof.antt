@@ -7,6 +7,6 @@ pub after_f0_spec : {M : Type 1} → statement M
 after_f0_spec =
     tie.close
     (tie.spec (λ c κs. search rules) (λ c κs. search rules) (λ c κs. search rules)
-    (λ c. simp (c.before.match.keys1, c.long-logic.ensures)) (λ c. simp (c.before.match.keys2, c.long-logic2.ensures))
+    (λ c. simp (c.before.match.keys1, c.long_logic_lem.ensures)) (λ c. simp (c.before.match.keys2, c.long-logic2.ensures))
     (λ c. simp (c.before.match.keys3, c.long-logic3.ensures))
     (λ c. simp (ne_eqb _ _ c.match.rest.0.0.1, ne_eqb _ _ c.match.rest.0.1, ne_eqb _ _ c.match.rest.1)))

@@ -7,10 +7,10 @@ pub row_7_spec : {M : Type 1} → statement M
 row_7_spec =
     tie.close
     (tie.spec (λ c κs. search rules) (λ c κs. search rules) (λ c κs. search rules) (λ c κs. search rules) (λ c κs. search rules) (λ c κs. search rules) (λ c κs. search rules) (λ c κs. search rules) (λ c κs. search rules) (λ c κs. search rules)
-    (λ c. simp (c.before.match.keys1, c.writes-part.ensures))
+    (λ c. simp (c.before.match.keys1, c.writes_part_lem.ensures))
     (λ c. simp (c.before.match.keys2, c.writes-part2.ensures))
     (λ c. simp (c.before.match.keys3, c.writes-part3.ensures))
-    (λ c. simp (c.before.match.keys4, c.reads-part.ensures))
+    (λ c. simp (c.before.match.keys4, c.reads_part_lem.ensures))
     (λ c. simp (c.before.match.keys5, c.reads-part2.ensures))
     (λ c. simp (c.before.match.keys6, c.reads-part3.ensures))
     (λ c. simp (c.before.match.keys7, c.reads-part4.ensures))

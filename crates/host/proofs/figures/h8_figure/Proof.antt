@@ -1,7 +1,7 @@
 use Rattle.host.specs.Figures.{answer_short}
 use native.Mathlib.Omega.{arith}
 use Rattle.host.proofs.Told.{figure_call}
-use Rattle.host.proofs.Figured.{figure-exactly, figure-kept}
+use Rattle.host.proofs.Figured.{figure_exactly, figure_kept}
 use borrow.Author.Rules.{rules}
 use Rattle.host.proofs.figures.h8_figure.Statement.{statement}
 use Rattle.host.proofs.figures.h8_figure.Tie as tie
@@ -21,7 +21,7 @@ h8_figure_spec =
     let p = f.figure.ensures in (
       figure_call k f.before.before.before.if1.false p.0 told,
       (
-        figure-exactly s.answer.now s.board.now s.rom.now s.entry k v told s.table.now p.1.0,
-        figure-kept s.answer.now s.board.now s.rom.now s.entry k v told p.1.1,
+        figure_exactly s.answer.now s.board.now s.rom.now s.entry k v told s.table.now p.1.0,
+        figure_kept s.answer.now s.board.now s.rom.now s.entry k v told p.1.1,
       ),
     )))

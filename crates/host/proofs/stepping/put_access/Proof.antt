@@ -7,4 +7,4 @@ pub put_access_spec : {M : Type 1} → statement M
 put_access_spec =
     tie.close
     (tie.spec (λ c κs. search rules) (λ c. search rules) (λ c. search rules) (λ c κs. search rules) (λ c. search rules) (λ c κs. search rules) (λ c κs. search rules) (λ c. search rules)
-    (λ c. let s = c.before.before.before.before.before.before.before.before.before.before.before.before.before.before.before.args in access_stored s.x s.i s.answer.now c.before.before.before.before.before.before.before.before.before.before.before.before.put.ensures c.before.before.before.before.before.before.before.put2.ensures (rw c.before.before.before.write-number.ensures at c.before.before.put3.ensures)))
+    (λ c. let s = c.before.before.before.before.before.before.before.before.before.before.before.before.before.before.before.args in access_stored s.x s.i s.answer.now c.before.before.before.before.before.before.before.before.before.before.before.before.put.ensures c.before.before.before.before.before.before.before.put2.ensures (rw c.before.before.before.write_number.ensures at c.before.before.put3.ensures)))

@@ -1,5 +1,5 @@
 use Rattle.host.specs.MirrorSteps.{step_lent}
-use Rattle.host.proofs.Stepped.{step-summed, step-spares}
+use Rattle.host.proofs.Stepped.{step_summed, step_spares}
 use borrow.Author.Rules.{rules}
 use Rattle.host.proofs.stepping.step_lent.Statement.{statement}
 use Rattle.host.proofs.stepping.step_lent.Tie as tie
@@ -17,7 +17,7 @@ step_lent_spec =
     let k = c.before.before.before.before.tell-step.ensures in (
       rw (← b, ← r, ← w.ensures.0, ← w.ensures.1.0, ← k),
       (
-        step-summed w.result _ _ k _ _ (rw (b, r) at w.ensures.1.1.0),
-        step-spares w.result _ _ k _ _ _ _ (rw (b, r) at w.ensures.0) (rw b at w.ensures.1.1.1),
+        step_summed w.result _ _ k _ _ (rw (b, r) at w.ensures.1.1.0),
+        step_spares w.result _ _ k _ _ _ _ (rw (b, r) at w.ensures.0) (rw b at w.ensures.1.1.1),
       ),
     )))

@@ -4,7 +4,7 @@ use borrow.Author.Tests.{ne_eqb}
 use Rattle.arith.specs.declared.Width.TheVariants.{Word}
 use Rattle.entry.specs.Entry.{dir_of, moved, move_by}
 use Rattle.transfer.specs.MirrorTransfer.{low_of, high_of}
-use Rattle.transfer.proofs.Laws.{aimed-moves, aimed-trail}
+use Rattle.transfer.proofs.Laws.{aimed_moves, aimed_trail}
 use borrow.Author.Rules.{rules}
 use Rattle.transfer.proofs.moving.word.Statement.{statement}
 use Rattle.transfer.proofs.moving.word.Tie as tie
@@ -16,4 +16,4 @@ word_spec =
     (tie.spec (λ c κs. search rules) (λ c κs. search rules) (λ c κs. search rules) (λ c. search rules)
     (λ c. rw c.before.before.before.before.before.before.if1.true c.before.before.step-word.ensures)
     (λ c. search rules)
-    (λ c. let a = c.before.before.before.before.before.before.before.before.before.before.before.args in ((rw c.before.before.before.before.before.before.aimed.ensures at (c.before.before.transfer-word.ensures.0 a.pc)) ∙ aimed-moves (dir_of a.k) Word a.er.now a.pc a.f a.b a.rom.now a.ram.now 16 2 2 a.x (λ y. refl) (λ y. refl) (λ e. refl) (λ e d. refl) (λ e. refl) (λ e. refl) (λ e. refl) (a.k % 8) (ne_eqb _ _ c.before.before.before.before.before.before.before.before.if1.false), λ pc o. (rw c.before.before.before.before.before.before.aimed.ensures at (c.before.before.transfer-word.ensures.1 pc o)) ∙ aimed-trail (dir_of a.k) Word a.er.now pc a.f a.trail.now 16 2 2 a.x a.pc (λ y. refl) (a.k % 8) (ne_eqb _ _ c.before.before.before.before.before.before.before.before.if1.false))))
+    (λ c. let a = c.before.before.before.before.before.before.before.before.before.before.before.args in ((rw c.before.before.before.before.before.before.aimed.ensures at (c.before.before.transfer-word.ensures.0 a.pc)) ∙ aimed_moves (dir_of a.k) Word a.er.now a.pc a.f a.b a.rom.now a.ram.now 16 2 2 a.x (λ y. refl) (λ y. refl) (λ e. refl) (λ e d. refl) (λ e. refl) (λ e. refl) (λ e. refl) (a.k % 8) (ne_eqb _ _ c.before.before.before.before.before.before.before.before.if1.false), λ pc o. (rw c.before.before.before.before.before.before.aimed.ensures at (c.before.before.transfer-word.ensures.1 pc o)) ∙ aimed_trail (dir_of a.k) Word a.er.now pc a.f a.trail.now 16 2 2 a.x a.pc (λ y. refl) (a.k % 8) (ne_eqb _ _ c.before.before.before.before.before.before.before.before.if1.false))))
