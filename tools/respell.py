@@ -95,6 +95,8 @@ def main():
     for b, names in sorted(together.items()):
         if len(names) > 1 or kept[b]:
             print(f"fall together: {', '.join(sorted(names))} -> {b}{' (there already)' if kept[b] else ''}")
+    if not turned:
+        return print("0 names")
     word = re.compile(r"(?<![\w'·-])(" + "|".join(sorted((re.escape(n) for n in turned), key=len, reverse=True)) + r")(?![\w'·-])")
     for path in antt + rest:
         text = open(path, encoding="utf8").read()

@@ -1,5 +1,7 @@
 // Results at every width over operands at the edges, then every decimal adjustment. A flag is shown by its letter, or by a
 // dash where it is clear; a flag that an operation does not give is not shown. `stdout` is what bench/arith_table.c prints.
+#![tactic(auto)]
+
 use arith::{Adjust, Counted, Moved, Shifted, Sum, Width};
 
 // The last operand of a byte and of a word has a bit above it, which is none of the operand's.

@@ -1,4 +1,6 @@
 // What the tool is asked: words, options and numbers, and what is wrong with them. Each function promises its one answer.
+#![tactic(auto)]
+
 mod faults;
 mod numbers;
 mod words;

@@ -1,4 +1,6 @@
 // One bit of a byte, and what the bit instructions do with it.
+#![tactic(auto)]
+
 ghost use Rattle.std.specs.Borrow.{Bor};
 ghost use Rattle.std.specs.Prelude.{◌≡◌, ◌*◌, ◌%◌, ◌^◌};
 ghost use Rattle.arith.specs.Widths.{num};

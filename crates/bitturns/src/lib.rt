@@ -1,4 +1,6 @@
 // The bit instructions as entries: variant k, operands x. A group is called once, from the loop of a run.
+#![tactic(auto)]
+
 ghost use Rattle.std.specs.Borrow.{Bor};
 ghost use Rattle.std.specs.Prelude.{◌≡◌};
 ghost use Rattle.turns.specs.MirrorTurn.{Turns, TurnsOn, Trails, touched_by};

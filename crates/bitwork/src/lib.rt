@@ -1,4 +1,6 @@
 // The bit instructions where the registers lie. PC is none of theirs. Where one is refused, nothing is left written.
+#![tactic(auto)]
+
 ghost use Rattle.std.specs.Prelude.{[], ◌∷◌};
 ghost use Rattle.arith.specs.declared.Width.TheVariants.{Byte};
 ghost use Rattle.codes.specs.Cycles.{touch};

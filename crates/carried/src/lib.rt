@@ -1,4 +1,6 @@
 // Where a replay stands, as numbers of a lent array (host/h8.h, "A REPLAY BETWEEN TWO CALLS"). What an array lacks reads as 0 and is not written.
+#![tactic(auto)]
+
 ghost use Rattle.std.specs.Prelude.{◌≡◌, [], ◌∷◌, ◌/◌, ◌%◌, ◌^◌};
 ghost use Rattle.std.proofs.lemmas.List.Edits.{sets};
 ghost use Rattle.replay.specs.Replay.{nothing};

@@ -1,4 +1,6 @@
 // An instruction: a choice among document 01's groups, each with its own operand choice. A register is a digit of the code.
+#![tactic(auto)]
+
 ghost use Rattle.std.specs.Borrow.{Bor};
 ghost use Rattle.std.specs.Prelude.{◌≡◌};
 ghost use Rattle.codes.specs.States.{long_states, reg_states, imm_states, alu_states, short_move_states, long_move_states, move_states, bcc_states, jmp_states, bsr_states, jsr_states, unsigned_states, signed_states, product_states, read_bit_states, written_bit_states, states_of};

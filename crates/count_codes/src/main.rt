@@ -1,4 +1,6 @@
 // Counts what the decoder makes of every first word, and of every second word after 0100, 01C0, 01D0, 01F0, and 7C00 to 7F00.
+#![tactic(auto)]
+
 ghost use Rattle.std.specs.Prelude.{◌≤◌};
 
 use codes::Decoded;

@@ -1,4 +1,6 @@
 // Bytes to an instruction.
+#![tactic(auto)]
+
 ghost use Rattle.std.specs.Prelude.{◌≡◌};
 ghost use Rattle.codes.specs.Exact.{Decodes};
 ghost use Rattle.decoder.specs.MirrorDecode.{placed_of, decode_of};

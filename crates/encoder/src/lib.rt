@@ -1,4 +1,6 @@
 // An instruction to bytes.
+#![tactic(auto)]
+
 ghost use Rattle.codes.specs.Exact.{Encodes};
 
 use codes::{Encoded, Instruction};

@@ -1,4 +1,6 @@
 // An instruction as one number: kind * 16 + variant + 512 * operands. What the number means is in specs/Entry.
+#![tactic(auto)]
+
 ghost use Rattle.std.specs.Prelude.{◌≡◌};
 ghost use Rattle.entry.specs.Entry.{pack_of, unheld_entry};
 

@@ -1,5 +1,7 @@
 // The entries without memory, by their kind: variant k, operands x. Each group is called once, from the loop of a run, and has a table of operations of its own, though
 // some are alike: what is called once the compiler puts into that loop, for the width that is written out; what is called twice, and is long, it does not.
+#![tactic(auto)]
+
 ghost use Rattle.std.specs.Prelude.{◌≡◌, cond};
 ghost use Rattle.arith.specs.declared.Width.TheVariants.{Byte, Word, Long};
 ghost use Rattle.refusal.specs.declared.Outcome.TheVariants.{Done};

@@ -1,5 +1,7 @@
 // The routine's figure: the largest total of states over all paths from an entry to a return, those of the routines that they call with them. Document 01,
 // "The routine's figure", and document 02, W9.
+#![tactic(auto)]
+
 ghost use Rattle.std.specs.Prelude.{◌≡◌, length};
 ghost use Rattle.listing.specs.Listing.{flow_at};
 ghost use Rattle.figure.specs.Answer.{asked_of, Figured, RefusedExactly};

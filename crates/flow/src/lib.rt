@@ -1,4 +1,6 @@
 // The target of a branch, document 01 "Numbers, flags and addresses": a signed displacement from the next instruction.
+#![tactic(auto)]
+
 ghost use Rattle.std.specs.Prelude.{◌≡◌, ◌<◌};
 ghost use Rattle.std.specs.Int.Signed.{mag};
 ghost use Rattle.arith.specs.Widths.{signed_of};

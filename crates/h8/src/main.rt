@@ -1,4 +1,6 @@
 // h8: the tool a person runs. It reads arguments and a file, asks the library and prints its answers.
+#![tactic(auto)]
+
 mod ask;
 mod asked;
 mod fault;

@@ -1,4 +1,6 @@
 // What a program in C links: the functions of host/h8.h, over numbers and lent arrays. `specs/` says what each returns and leaves.
+#![tactic(auto)]
+
 mod answers;
 mod cuts;
 mod decoding;

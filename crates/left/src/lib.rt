@@ -1,4 +1,6 @@
 // The codes of the manual's section 2.4 that the set leaves out, and the group that bytes belong to if they begin with such a code or are its beginning.
+#![tactic(auto)]
+
 ghost use Rattle.std.specs.Prelude.{◌≡◌, ◌%◌, ◌<◌, get_or};
 ghost use Rattle.left.specs.Left.{fits, agrees, group_in, left_out};
 ghost use Rattle.left.specs.Unheld.{unheld_of};

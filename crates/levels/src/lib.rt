@@ -2,6 +2,8 @@
 // the routine it enters": `path_cost` and `call_cost` call each other, remaining depth and then remaining places falling. Each of a place's two numbers in the
 // table has in its lower half one level's row, packed: even depths in the first, odd ones in the second, for a level needs only itself and the one below. In
 // the upper halves stands what `listing` says of the place, which all levels ask for.
+#![tactic(auto)]
+
 ghost use Rattle.std.specs.Prelude.{◌≡◌, ◌+◌, ◌-◌, ◌*◌, ◌<◌, ◌≤◌, length};
 ghost use Rattle.listing.specs.Listing.{flow_at};
 ghost use Rattle.levels.specs.Levels.{fitting, FilledIf, Lent, Ready, Costed, Reached, Unpacked};

@@ -1,4 +1,6 @@
 // The lines that the tool prints for a figure, a way and a listing, in words or, with `plain`, as one name and value a line. Each function promises the exact text.
+#![tactic(auto)]
+
 mod calls;
 mod figures;
 mod places;

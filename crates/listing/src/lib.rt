@@ -1,4 +1,6 @@
 // Where paths go from each place of read-only memory: document 01, "The routine's figure".
+#![tactic(auto)]
+
 ghost use Rattle.std.specs.Prelude.{◌≡◌, ◌+◌, ◌*◌, ◌<◌};
 ghost use Rattle.codes.specs.declared.Decoded.TheVariants.{Code};
 ghost use Rattle.codes.specs.declared.Instruction.TheVariants.{Bsr, Jsr, Rts};

@@ -1,6 +1,8 @@
 // Data accesses at the edges, one a line: the access as it was asked for, then the value or the refusal's number and place,
 // and after a write the bytes of working memory; then boards, areas on boards, and sites by themselves, right and wrong.
 // `stdout` was worked out by hand from document 01, and for the areas from document 02, W5.
+#![tactic(auto)]
+
 use arith::Width;
 use memory::{Board, Got, Put};
 use refusal::Refusal;

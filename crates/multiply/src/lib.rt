@@ -1,4 +1,6 @@
 // MULXU, MULXS, DIVXU and DIVXS where the registers lie. PC is none of theirs.
+#![tactic(auto)]
+
 ghost use Rattle.std.specs.Prelude.{◌≡◌};
 ghost use Rattle.codes.specs.declared.Sign.TheVariants.{Unsigned, Signed};
 ghost use Rattle.registers.specs.Lent.{lent};

@@ -1,4 +1,6 @@
 // What the instructions without memory do, where the registers lie: a function writes them and answers the condition byte. PC is none of theirs.
+#![tactic(auto)]
+
 ghost use Rattle.std.specs.Prelude.{◌≡◌, ◌%◌};
 ghost use Rattle.arith.specs.Widths.{bits_of};
 ghost use Rattle.arith.specs.Sums.{inc_of, dec_of};

@@ -1,4 +1,6 @@
 // Paths over a listing: document 01, "The routine's figure". `Flow` is all they know of an instruction set.
+#![tactic(auto)]
+
 ghost use Rattle.std.specs.Prelude.{◌≡◌, ◌-◌, ◌<◌, min, max, ◌||◌, nat_le, slice_index};
 ghost use Rattle.paths.specs.MirrorRows.{barred, row_of, unpacked_of, level_of, shown_of, why_of, turned_of, own_of, better_of, onward_of};
 ghost use Rattle.paths.specs.MirrorPacked.{packed_bar, packed_at, packed_total, packed_join, packed_call, packedUp, packedIn, packedFlow, notes_for, notes_of, noted_of};

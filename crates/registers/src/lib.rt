@@ -1,4 +1,6 @@
 // The condition byte and the registers.
+#![tactic(auto)]
+
 ghost use Rattle.std.specs.Prelude.{◌≡◌, ◌/◌, ◌*◌, ◌%◌};
 ghost use Rattle.registers.specs.Condition.{condition_of, byte_of, with_sum, with_extended, with_counted, with_shifted, with_moved, with_adjusted, with_product};
 ghost use Rattle.registers.specs.Parts.{Below, below_of, insert_of, pc_of};

@@ -1,4 +1,6 @@
 // Replay against a recording, byte by byte: each record is compared, and one step is taken after each that agrees.
+#![tactic(auto)]
+
 ghost use Rattle.std.specs.Prelude.{◌≡◌, ◌*◌, ◌%◌, ◌^◌, ◌≤◌, ◌<◌};
 ghost use Rattle.replay.specs.Cuts.{said_of, arrived, deliverOf};
 ghost use Rattle.replay.specs.MirrorReplay.{over_of, fresh_of, ahead_of, missing_of, passed_of};

@@ -1,4 +1,6 @@
 // Decodes every word with zeros after it, encodes what was found and compares the bytes; then hands `encode` what it must refuse.
+#![tactic(auto)]
+
 ghost use Rattle.std.specs.Prelude.{◌≤◌};
 
 use arith::Width;

@@ -1,5 +1,7 @@
 // Document 02, W9's run mode: the step repeated, with up to eight pushed addresses kept. The step is `run::single`: a step is compiled once, into the
 // loop of a run. What is not taken is known before it is made: a return writes nothing, and a ninth call is asked about.
+#![tactic(auto)]
+
 ghost use Rattle.std.specs.Prelude.{◌≡◌, true, ◌&&◌, [], ◌+◌, ◌-◌, ◌%◌, ◌<◌, ◌≤◌, length, set};
 ghost use Rattle.codes.specs.States.{goes_of};
 ghost use Rattle.memory.specs.Board.{good_board};

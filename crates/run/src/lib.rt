@@ -1,4 +1,6 @@
 // The repeated step, up to a stop address and within a budget.
+#![tactic(auto)]
+
 ghost use Rattle.std.specs.Prelude.{◌≡◌, true, ◌&&◌, ◌%◌, ◌≤◌};
 ghost use Rattle.refusal.specs.declared.Outcome.TheVariants.{Done};
 ghost use Rattle.step.specs.Step.{after, answered, good_start, step_of};

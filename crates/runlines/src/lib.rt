@@ -1,4 +1,6 @@
 // The lines that the tool prints for a run, a routine's run, a trace and a replay, in words or, with `plain`, as one name and value a line. Each function promises the exact text.
+#![tactic(auto)]
+
 mod replays;
 mod routines;
 mod runs;

@@ -1,4 +1,6 @@
 // What a step is told as, the conditions of branches, and where PC can be. The step itself is `run::single`: a step is compiled once, into the loop of a run.
+#![tactic(auto)]
+
 ghost use Rattle.std.specs.Prelude.{◌≡◌};
 ghost use Rattle.step.specs.Follow.{even_condition, holds_of};
 ghost use Rattle.step.specs.Step.{good_pc};

@@ -2,6 +2,8 @@
 // refusals with a pattern in all registers. A line has the state before, how the step went, which of ER0 to ER7 changed, and the rest
 // of the state after; each step is made a second time where the record lies, and a line says so if that does otherwise. `stdout` is
 // what bench/step_vectors.c prints, by a model that shares no text with this product.
+#![tactic(auto)]
+
 use memory::Board;
 use refusal::{Outcome, Refusal};
 use registers::{Condition, Registers};

@@ -1,4 +1,6 @@
 // Text for a person to read: a line that is being written, and numbers.
+#![tactic(auto)]
+
 mod buffer;
 mod numbers;
 

@@ -1,5 +1,7 @@
 // The entries with memory, jumps, calls and products, by their kind: variant k, operands x. A group is called once, from the loop of a run: the compiler then
 // puts it into that loop. MOV with memory is in `moving`.
+#![tactic(auto)]
+
 ghost use Rattle.std.specs.Prelude.{◌≡◌, ◌%◌};
 ghost use Rattle.codes.specs.Cycles.{pushes, touches_of};
 ghost use Rattle.codes.specs.declared.Reach.TheVariants.{Near, Far};

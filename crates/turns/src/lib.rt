@@ -1,4 +1,6 @@
 // What an entry comes to: the registers are written where they lie, and the rest is handed back.
+#![tactic(auto)]
+
 ghost use Rattle.std.specs.Prelude.{◌≡◌};
 ghost use Rattle.refusal.specs.declared.Outcome.TheVariants.{Done, Refused};
 ghost use Rattle.turns.specs.MirrorTurn.{turn, ended_of};

@@ -1,4 +1,6 @@
 // A step that says what it touched. The loop of a run hands out what its reads and writes noted; here that is unpacked.
+#![tactic(auto)]
+
 ghost use Rattle.std.specs.Prelude.{◌≡◌, ◌∷◌, ◌++◌};
 ghost use Rattle.memory.specs.Told.{made_in};
 ghost use Rattle.memory.specs.Trail.{trail_in};

@@ -1,4 +1,6 @@
 // What stands at a place, and refusals, in words; lines of one name and value.
+#![tactic(auto)]
+
 pub mod parts;
 pub mod ports;
 
