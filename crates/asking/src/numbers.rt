@@ -4,7 +4,7 @@ ghost use Rattle.asking.specs.Numbers.{digit_of, behind, grown_of, larger_of, mo
 
 use crate::words::byte_at;
 
-#[derive(Drop)]
+#[derive(Clone, Copy)]
 pub enum Number {
     Value(u64),
     NotNumber,

@@ -2,7 +2,7 @@
 ghost use Rattle.std.specs.Prelude.{◌≡◌, get_or};
 ghost use Rattle.asking.specs.Words.{same_text, dashed, kind_of, use_of, help_asked};
 
-#[derive(Drop)]
+#[derive(Clone, Copy)]
 pub enum Kind {
     AWord,
     PlainOption,
@@ -17,7 +17,7 @@ pub enum Kind {
     NoOption,
 }
 
-#[derive(Drop)]
+#[derive(Clone, Copy)]
 pub enum Use {
     ForFigure,
     ForWay,

@@ -10,7 +10,7 @@ use products::Half;
 use refusal::Refusal;
 
 // ADD to AND, with a register or the code itself as the source.
-#[derive(Drop)]
+#[derive(Clone, Copy)]
 pub enum Op {
     Add,
     Sub,
@@ -23,27 +23,27 @@ pub enum Op {
     And,
 }
 
-#[derive(Drop)]
+#[derive(Clone, Copy)]
 pub enum Source {
     Reg(u8),
     Imm(u32),
 }
 
 // INC or DEC, ADDS or SUBS, DAA or DAS.
-#[derive(Drop)]
+#[derive(Clone, Copy)]
 pub enum Way {
     Up,
     Down,
 }
 
-#[derive(Drop)]
+#[derive(Clone, Copy)]
 pub enum By {
     One,
     Two,
     Four,
 }
 
-#[derive(Drop)]
+#[derive(Clone, Copy)]
 pub enum Turn {
     Shll,
     Shlr,
@@ -55,7 +55,7 @@ pub enum Turn {
     Rotr,
 }
 
-#[derive(Drop)]
+#[derive(Clone, Copy)]
 pub enum Single {
     Not,
     Neg,
@@ -64,14 +64,14 @@ pub enum Single {
 }
 
 // MULXU and DIVXU, or MULXS and DIVXS.
-#[derive(Drop)]
+#[derive(Clone, Copy)]
 pub enum Sign {
     Unsigned,
     Signed,
 }
 
 // A bit instruction that reads its bit: BTST sets Z by it, the others C.
-#[derive(Drop)]
+#[derive(Clone, Copy)]
 pub enum Take {
     Btst,
     Bor,
@@ -85,7 +85,7 @@ pub enum Take {
 }
 
 // One that writes its bit.
-#[derive(Drop)]
+#[derive(Clone, Copy)]
 pub enum Give {
     Bset,
     Bnot,
@@ -95,14 +95,14 @@ pub enum Give {
 }
 
 // A bit's number: in the code, or in a byte register.
-#[derive(Drop)]
+#[derive(Clone, Copy)]
 pub enum Index {
     Numbered(u8),
     ByPart(u8),
 }
 
 // The byte that a bit is in: a byte register, or memory at @ER or aa:8.
-#[derive(Drop)]
+#[derive(Clone, Copy)]
 pub enum Spot {
     InPart(u8),
     AtEr(u8),
@@ -110,7 +110,7 @@ pub enum Spot {
 }
 
 // What is done to the condition byte with an immediate byte.
-#[derive(Drop)]
+#[derive(Clone, Copy)]
 pub enum Change {
     Orc,
     Xorc,
@@ -118,14 +118,14 @@ pub enum Change {
     Ldc,
 }
 
-#[derive(Drop)]
+#[derive(Clone, Copy)]
 pub enum Dir {
     Load,
     Store,
 }
 
 // An operand in memory: @ER; @ER+ of a load and @-ER of a store; @(d:16,ER); aa:8, aa:16 and aa:24.
-#[derive(Drop)]
+#[derive(Clone, Copy)]
 pub enum Place {
     At(u8),
     Step(u8),
@@ -136,21 +136,21 @@ pub enum Place {
 }
 
 // A displacement of a branch, by its bits: d:8 or d:16.
-#[derive(Drop)]
+#[derive(Clone, Copy)]
 pub enum Reach {
     Near(u8),
     Far(u16),
 }
 
 // Where JMP and JSR go: @ER, aa:24, @@aa:8.
-#[derive(Drop)]
+#[derive(Clone, Copy)]
 pub enum Target {
     ByReg(u8),
     Direct(u32),
     Vector(u8),
 }
 
-#[derive(Drop)]
+#[derive(Clone, Copy)]
 pub enum Instruction {
     Nop,
     // STC CCR,Rd and LDC Rs,CCR
@@ -178,7 +178,7 @@ pub enum Instruction {
 }
 
 // Where an instruction lets PC go, apart from what it does.
-#[derive(Drop)]
+#[derive(Clone, Copy)]
 pub enum Goes {
     Onward,
     Branches(u8, Reach),
@@ -189,14 +189,14 @@ pub enum Goes {
 }
 
 // What bytes begin with: an instruction and its length, or refusal 3, 4 or 15.
-#[derive(Drop)]
+#[derive(Clone, Copy)]
 pub enum Decoded {
     Code(Instruction, usize),
     NoCode(Refusal),
 }
 
 // What encoding did: it wrote so many bytes, or refusal 11 or 13.
-#[derive(Drop)]
+#[derive(Clone, Copy)]
 pub enum Encoded {
     Written(usize),
     NotWritten(Refusal),

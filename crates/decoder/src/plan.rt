@@ -11,7 +11,7 @@ use codes::{
 use products::Half;
 
 // What a code still lacks after its words.
-#[derive(Drop)]
+#[derive(Clone, Copy)]
 pub enum Rest {
     Imm16(Op, u8),
     Imm32(Op, u8),
@@ -25,7 +25,7 @@ pub enum Rest {
     Jsr24(u8),
 }
 
-#[derive(Drop)]
+#[derive(Clone, Copy)]
 pub enum Plan {
     Whole(Instruction),
     Lacks(Rest),
@@ -33,7 +33,7 @@ pub enum Plan {
 }
 
 // How a MOV reaches memory: @ER; @ER+ and @-ER; d:16; aa:16 and aa:24.
-#[derive(Drop)]
+#[derive(Clone, Copy)]
 pub enum Mode {
     Plain,
     Stepping,

@@ -7,7 +7,7 @@ use arith::Width;
 use codes::{Instruction, Place, Reach, Source, Target};
 
 // What a code lacks after its words: 16 or 32 bits, or a byte 00 and 24 bits.
-#[derive(Drop)]
+#[derive(Clone, Copy)]
 enum Tail {
     Bits16,
     Bits24,
@@ -15,7 +15,7 @@ enum Tail {
 }
 
 // An instruction and its length; or the bytes are a proper beginning of a code; or neither.
-#[derive(Drop)]
+#[derive(Clone, Copy)]
 pub enum Found {
     Is(Instruction, usize),
     Cut,

@@ -11,14 +11,14 @@ use codes::{
 };
 
 // What stands before the word: nothing, or two bytes.
-#[derive(Drop)]
+#[derive(Clone, Copy)]
 pub enum Prefix {
     Bare,
     Behind(u32, u32),
 }
 
 // What follows the word: nothing, or a number of 16 or of 32 bits.
-#[derive(Drop)]
+#[derive(Clone, Copy)]
 pub enum Tail {
     NoTail,
     Tail16,
@@ -26,7 +26,7 @@ pub enum Tail {
 }
 
 // A prefix, the two bytes of a word, and the number that follows.
-#[derive(Drop)]
+#[derive(Clone, Copy)]
 pub struct Parts {
     pub prefix: Prefix,
     pub a: u32,

@@ -14,14 +14,14 @@ use refusal::Refusal;
 use site::Site;
 
 // The figure, or a refusal.
-#[derive(Drop)]
+#[derive(Clone, Copy)]
 pub enum Verdict {
     Longest(u64),
     Forbids(Refusal),
 }
 
 // Whether the site, the memory, the entry and the lent table are fit to be looked at: refusals 1, 8 and 13.
-#[derive(Drop)]
+#[derive(Clone, Copy)]
 pub enum Asked {
     Fit,
     Unfit(Refusal),

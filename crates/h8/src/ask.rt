@@ -4,7 +4,7 @@ ghost use Rattle.std.specs.Prelude.{◌≤◌};
 use asking::{Kind, Number, Use};
 
 // Where the arguments stand: words one after the other, options by their name; 0 is none.
-#[derive(Drop)]
+#[derive(Clone, Copy)]
 pub struct Request {
     pub count: usize,
     pub plain: bool,

@@ -11,19 +11,19 @@ use site::Area;
 const NEVER: u64 = 16777215;
 
 // `bad` where a line has said which argument is wrong, here and below.
-#[derive(Drop)]
+#[derive(Clone, Copy)]
 pub struct Wanted {
     pub given: Given,
     pub bad: bool,
 }
 
-#[derive(Drop)]
+#[derive(Clone, Copy)]
 pub struct PortArea {
     pub area: Area,
     pub bad: bool,
 }
 
-#[derive(Drop)]
+#[derive(Clone, Copy)]
 pub struct Begun {
     pub regs: Registers,
     pub bad: bool,

@@ -2,7 +2,7 @@
 use crate::{ask, show};
 use asking::Number;
 
-#[derive(Drop)]
+#[derive(Clone, Copy)]
 pub enum Got {
     Found(u64),
     Wrong,

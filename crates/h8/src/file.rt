@@ -1,7 +1,7 @@
 // The ROM's bytes from a file.
 use crate::fault;
 
-#[derive(Drop)]
+#[derive(Clone, Copy)]
 pub enum Loaded {
     Bytes(usize),
     NotLoaded,

@@ -33,7 +33,7 @@ fn follow(k: Site, rom: &[u8], table: &[u64], entry: u32, plain: bool) {
 }
 
 // A place of a way that goes into the routines that it calls, with where these return to.
-#[derive(Drop)]
+#[derive(Clone, Copy)]
 struct Within {
     place: u32,
     depth: u8,

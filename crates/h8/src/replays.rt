@@ -9,7 +9,7 @@ use runlines::Given;
 use site::Site;
 
 // Where the replay stands, how many bytes it was fed, whether there is nothing more to read for it, and whether reading failed.
-#[derive(Drop)]
+#[derive(Clone, Copy)]
 struct Reached {
     standing: Standing,
     bytes: u64,

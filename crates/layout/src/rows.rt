@@ -10,14 +10,14 @@ use codes::{By, Index, Instruction, Place, Reach, Sign, Source, Spot, Target};
 use products::Half;
 
 // FORM, OTHER and VALUE.
-#[derive(Drop)]
+#[derive(Clone, Copy)]
 pub struct Operand {
     pub form: u32,
     pub other: u32,
     pub value: u32,
 }
 
-#[derive(Drop)]
+#[derive(Clone, Copy)]
 pub struct Row {
     pub kind: u32,
     pub which: u32,
@@ -29,7 +29,7 @@ pub struct Row {
 }
 
 // The instruction that a row is of, if there is one.
-#[derive(Drop)]
+#[derive(Clone, Copy)]
 pub enum Named {
     Names(Instruction),
     NamesNone,

@@ -7,7 +7,7 @@ use figure::Verdict;
 use text::Line;
 use wording::parts;
 
-#[derive(Drop)]
+#[derive(Clone, Copy)]
 pub enum Gap {
     States(u64),
     NoGap,

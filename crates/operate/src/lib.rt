@@ -22,7 +22,7 @@ use refusal::{Outcome, Refusal};
 use registers::Condition;
 
 // The condition byte after an instruction, and how it went. A refused one has written nothing.
-#[derive(Drop)]
+#[derive(Clone, Copy)]
 pub struct Deed {
     pub condition: Condition,
     pub outcome: Outcome,

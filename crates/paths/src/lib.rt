@@ -8,7 +8,7 @@ ghost use Rattle.paths.specs.MirrorPacked.{packed_bar, packed_at, packed_total, 
 use refusal::Refusal;
 
 // Where paths go from a place, with the states of what stands there.
-#[derive(Drop)]
+#[derive(Clone, Copy)]
 pub enum Flow {
     // the next instruction
     Next(u32, u64),
@@ -25,7 +25,7 @@ pub enum Flow {
 }
 
 // What a table holds of a place: the figure, and the lowest forbidden place.
-#[derive(Drop)]
+#[derive(Clone, Copy)]
 pub struct Reckoned {
     pub figure: u64,
     pub low: u64,
@@ -33,14 +33,14 @@ pub struct Reckoned {
 
 // What stands at a place, noted in the upper halves of two numbers, whose lower halves are for rows: the place that it may go to and what kind it is, and
 // the place where it goes on and its states.
-#[derive(Drop)]
+#[derive(Clone, Copy)]
 pub struct Notes {
     pub to: u64,
     pub on: u64,
 }
 
 // Where the longest way goes on from a place, or that it returns there.
-#[derive(Drop)]
+#[derive(Clone, Copy)]
 pub enum WayOn {
     On(u32),
     Home,

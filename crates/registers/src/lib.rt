@@ -9,7 +9,7 @@ ghost use Rattle.registers.specs.Lent.{part_in, put_in};
 use arith::{Counted, Moved, Shifted, Sum, Width};
 
 // The condition byte as its eight bits: each change of flags is then a record, and "the others stay" can be seen.
-#[derive(Drop)]
+#[derive(Clone, Copy)]
 pub struct Condition {
     pub i: bool,
     pub ui: bool,
@@ -174,7 +174,7 @@ impl Condition {
     }
 }
 
-#[derive(Drop)]
+#[derive(Clone, Copy)]
 pub struct Registers {
     pub er: [u32; 8],
     pub pc: u32,

@@ -11,7 +11,7 @@ use refusal::{Outcome, Refusal};
 use registers::Registers;
 
 // What is read of the next record: how many of its bytes, and its numbers so far.
-#[derive(Drop)]
+#[derive(Clone, Copy)]
 pub struct Part {
     pub count: u32,
     pub size: u32,
@@ -21,7 +21,7 @@ pub struct Part {
 }
 
 // The fields of a record, in the order in which they are compared.
-#[derive(Drop)]
+#[derive(Clone, Copy)]
 pub enum Field {
     OfPc,
     OfCondition,
@@ -41,14 +41,14 @@ impl Field {
     }
 }
 
-#[derive(Drop)]
+#[derive(Clone, Copy)]
 pub enum Report {
     Agreed,
     Differs(Field),
     Halted(Refusal),
 }
 
-#[derive(Drop)]
+#[derive(Clone, Copy)]
 pub enum Stage {
     Version,
     Records(Part),
@@ -57,7 +57,7 @@ pub enum Stage {
 }
 
 // Where a replay stands. As many steps were taken as records agreed.
-#[derive(Drop)]
+#[derive(Clone, Copy)]
 pub struct Standing {
     pub regs: Registers,
     pub steps: u32,
@@ -65,20 +65,20 @@ pub struct Standing {
     pub stage: Stage,
 }
 
-#[derive(Drop)]
+#[derive(Clone, Copy)]
 pub struct Ended {
     pub replay: Standing,
     pub report: Report,
 }
 
 // What a delivery came to.
-#[derive(Drop)]
+#[derive(Clone, Copy)]
 pub enum Said {
     More,
     Final(Report),
 }
 
-#[derive(Drop)]
+#[derive(Clone, Copy)]
 pub struct Delivered {
     pub replay: Standing,
     pub said: Said,

@@ -18,7 +18,7 @@ use step::StepAnswer;
 mod ahead;
 
 // Why a run of the mode ended.
-#[derive(Drop)]
+#[derive(Clone, Copy)]
 pub enum Ending {
     AtStop,
     Spent,
@@ -32,7 +32,7 @@ pub enum Ending {
 }
 
 // The addresses that are kept, in the order in which they were pushed: `count` of them, and then 0.
-#[derive(Drop)]
+#[derive(Clone, Copy)]
 pub struct RoutineAnswer {
     pub regs: Registers,
     pub steps: u32,
@@ -43,20 +43,20 @@ pub struct RoutineAnswer {
 }
 
 // What stands at PC: where it lets PC go, and the address of the next instruction.
-#[derive(Drop)]
+#[derive(Clone, Copy)]
 struct Seen {
     goes: Goes,
     next: u32,
 }
 
-#[derive(Drop)]
+#[derive(Clone, Copy)]
 enum Going {
     On,
     Ends(Ending),
 }
 
 // One turn: the registers and the kept addresses after it, the step that it took, or none, and whether the run goes on.
-#[derive(Drop)]
+#[derive(Clone, Copy)]
 struct Turned {
     regs: Registers,
     kept: [u32; 8],

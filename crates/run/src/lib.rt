@@ -19,14 +19,14 @@ mod beside;
 mod kept;
 
 // Why a run ended.
-#[derive(Drop)]
+#[derive(Clone, Copy)]
 pub enum Ending {
     AtStop,
     Spent,
     Halted(Refusal),
 }
 
-#[derive(Drop)]
+#[derive(Clone, Copy)]
 pub struct RunAnswer {
     pub regs: Registers,
     pub steps: u32,
@@ -35,14 +35,14 @@ pub struct RunAnswer {
 }
 
 // A run, and what its last step noted.
-#[derive(Drop)]
+#[derive(Clone, Copy)]
 struct Traced {
     answer: RunAnswer,
     touched: u64,
 }
 
 // A step, and what it noted: memory::told unpacks it.
-#[derive(Drop)]
+#[derive(Clone, Copy)]
 pub struct Told {
     pub answer: StepAnswer,
     pub touched: u64,

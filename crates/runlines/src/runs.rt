@@ -15,7 +15,7 @@ use text::Line;
 use wording::{parts, ports};
 
 // What was asked, for the words about it.
-#[derive(Drop)]
+#[derive(Clone, Copy)]
 pub struct Given {
     pub entry: u32,
     pub base: u32,

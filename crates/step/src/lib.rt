@@ -9,7 +9,7 @@ use refusal::Outcome;
 use registers::{Condition, Registers};
 
 // The registers after a step, its states, and whether it was refused.
-#[derive(Drop)]
+#[derive(Clone, Copy)]
 pub struct StepAnswer {
     pub regs: Registers,
     pub states: u32,

@@ -432,7 +432,7 @@ fn counted(t: bool) -> u32 {
 }
 
 // What a step by value answers, and whether the record in place did the same.
-#[derive(Drop)]
+#[derive(Clone, Copy)]
 struct Told {
     regs: Registers,
     agreed: bool,

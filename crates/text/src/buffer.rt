@@ -3,7 +3,7 @@ ghost use Rattle.std.specs.Prelude.{◌≡◌, [], ◌∷◌, ◌-◌, replicate
 ghost use Rattle.text.specs.Lines.{none, Adds};
 
 // Its text is the first n bytes; what does not fit is dropped.
-#[derive(Drop)]
+#[derive(Clone, Copy)]
 pub struct Line {
     pub text: [u8; 192],
     pub n: usize,

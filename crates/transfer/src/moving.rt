@@ -17,7 +17,7 @@ use registers::Condition;
 use turns::Turn;
 
 // The operand's address and the digit of the register, where PC goes, and the states without the access.
-#[derive(Drop)]
+#[derive(Clone, Copy)]
 pub struct Aim {
     pub address: u32,
     pub register: u8,

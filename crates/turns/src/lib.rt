@@ -10,7 +10,7 @@ use refusal::{Outcome, Refusal};
 use registers::Condition;
 
 // The condition byte after it, where PC goes, the states, and how it went.
-#[derive(Drop)]
+#[derive(Clone, Copy)]
 pub struct Turn {
     pub condition: Condition,
     pub pc: u32,

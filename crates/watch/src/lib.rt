@@ -14,7 +14,7 @@ use registers::Registers;
 use step::StepAnswer;
 
 // The data accesses of a step, in the order made.
-#[derive(Drop)]
+#[derive(Clone, Copy)]
 pub enum Listed {
     Empty,
     Solo(Access),
@@ -23,7 +23,7 @@ pub enum Listed {
     Quartet(Access, Access, Access, Access),
 }
 
-#[derive(Drop)]
+#[derive(Clone, Copy)]
 pub struct Watched {
     pub answer: StepAnswer,
     pub list: Listed,
