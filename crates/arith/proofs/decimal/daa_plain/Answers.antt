@@ -1,0 +1,15 @@
+use borrow.Author.Tests.{lt-ltb, le-ltb}
+use borrow.Author.Rules.{rules}
+use Rattle.arith.proofs.decimal.daa_plain.Goals as goal
+
+pub returns-then-up-lt10 : goal.returns-then-up-lt10
+returns-then-up-lt10 c = rw (lt-ltb _ _ c.if-low-lt10.true, lt-ltb _ _ c.if-up-lt10.true) c.by_row.ensures
+
+pub returns-else-up-lt10 : goal.returns-else-up-lt10
+returns-else-up-lt10 c = rw (lt-ltb _ _ c.if-low-lt10.true, le-ltb _ _ c.if-up-lt10.false) c.by_row-else-up-lt10.ensures
+
+pub returns-then-up-lt9 : goal.returns-then-up-lt9
+returns-then-up-lt9 c = rw (le-ltb _ _ c.if-low-lt10.false, lt-ltb _ _ c.if-up-lt9.true) c.by_row-then-up-lt9.ensures
+
+pub returns-else-up-lt9 : goal.returns-else-up-lt9
+returns-else-up-lt9 c = rw (le-ltb _ _ c.if-low-lt10.false, le-ltb _ _ c.if-up-lt9.false) c.by_row-else-up-lt9.ensures

@@ -1,0 +1,8 @@
+use Rattle.arith.specs.Widths.{bits_of, moved_of}
+use Rattle.arith.proofs.Bitwise.{and_bits}
+use borrow.Author.Rules.{rules}
+use Rattle.arith.proofs.logic.and.Goals as goal
+
+pub returns : goal.returns
+unfolding moved_of
+returns c = let s = c.args in cc (and_bits (bits_of s.w) s.a s.b)

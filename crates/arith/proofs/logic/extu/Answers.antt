@@ -1,0 +1,5 @@
+use borrow.Author.Rules.{rules}
+use Rattle.arith.proofs.logic.extu.Goals as goal
+
+pub returns : goal.returns
+returns c = cc

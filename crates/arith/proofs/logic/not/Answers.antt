@@ -1,0 +1,5 @@
+use borrow.Author.Rules.{rules}
+use Rattle.arith.proofs.logic.not.Goals as goal
+
+pub returns : goal.returns
+returns c = cc

@@ -1,0 +1,5 @@
+use borrow.Author.Rules.{rules}
+use Rattle.arith.proofs.low_bits.Goals as goal
+
+pub returns : goal.returns
+returns c = cc

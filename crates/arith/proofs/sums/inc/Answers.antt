@@ -1,0 +1,7 @@
+use Rattle.arith.specs.Sums.{inc_of}
+use borrow.Author.Rules.{rules}
+use Rattle.arith.proofs.sums.inc.Goals as goal
+
+pub returns : goal.returns
+unfolding inc_of
+returns c = cc

@@ -1,0 +1,6 @@
+use Rattle.text.proofs.Adding.{more}
+use borrow.Author.Rules.{rules}
+use Rattle.asking.proofs.faults.missing.Goals as goal
+
+pub returns : goal.returns
+returns c = more c.error-a.ensures (more c.bytes-b.ensures (more c.bytes-c.ensures (more c.bytes-d.ensures c.put.ensures)))

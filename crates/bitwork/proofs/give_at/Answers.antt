@@ -1,0 +1,19 @@
+use mathlib.Core.Path.{sym, ◌∙◌, ap}
+use Rattle.memory.specs.Trail.{got_noted}
+use Rattle.operate.specs.declared.Deed.{Deed}
+use Rattle.moves.proofs.Laws.{no_deed}
+use Rattle.bitwork.proofs.Laws.{given_stored, noted_given}
+use Rattle.bitwork.specs.Bitwork.{gave_to, gives_at}
+use borrow.Author.Rules.{rules}
+use Rattle.bitwork.proofs.give_at.Goals as goal
+
+pub returns-in-Value : goal.returns-in-Value
+unfolding got_noted gave_to gives_at
+returns-in-Value c = let b = c in (
+      λ pc. rw (sym b.read.ensures.0 ∙ c.in-Value.is, c.kept.ensures) (given_stored _ _ _ _ _ pc _ _ _ _ _ _ (c.gave-y.ensures pc) c.write.ensures.0),
+      λ pc o. noted_given _ _ _ pc _ _ _ _ (rw c.in-Value.is at b.read.ensures.1) c.write.ensures.1 (sym (ap (λ (e : Deed). e.outcome) c.kept.ensures) ∙ o),
+    )
+
+pub returns-in-NotRead : goal.returns-in-NotRead
+unfolding got_noted gave_to gives_at
+returns-in-NotRead c = (λ pc. simp (sym c.read.ensures.0 ∙ c.in-NotRead.is, c.refused.ensures), λ pc o. absurd (no_deed _ _ _ c.refused.ensures o))

@@ -1,0 +1,8 @@
+use Rattle.registers.specs.Parts.{part_of}
+use mathlib.Core.Path.{sym}
+use borrow.Author.Rules.{rules}
+use Rattle.bitwork.proofs.take.Goals as goal
+
+pub returns : goal.returns
+unfolding part_of
+returns c = λ pc. rw (sym c.get.ensures) (c.took.ensures pc)

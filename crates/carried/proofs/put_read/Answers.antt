@@ -1,0 +1,5 @@
+use borrow.Author.Rules.{rules}
+use Rattle.carried.proofs.put_read.Goals as goal
+
+pub returns : goal.returns
+returns c = simp (c.put-6.ensures, c.put-5.ensures, c.put-4.ensures, c.put-3.ensures, c.put-2.ensures, c.put.ensures)

@@ -1,0 +1,71 @@
+use borrow.Author.Rules.{rules}
+use borrow.Author.Tests.{ne_eqb}
+use Rattle.decoder.proofs.words.row_6.Goals as goal
+
+pub returns-in-0 : goal.returns-in-0
+returns-in-0 c = simp (c.in-0.is, c.writes_part.ensures)
+
+pub returns-in-1 : goal.returns-in-1
+returns-in-1 c = simp (c.in-1.is, c.writes_part-in-1.ensures)
+
+pub returns-in-2 : goal.returns-in-2
+returns-in-2 c = simp (c.in-2.is, c.writes_part-in-2.ensures)
+
+pub returns-in-3 : goal.returns-in-3
+returns-in-3 c = simp (c.in-3.is, c.reads_part.ensures)
+
+pub returns-in-4 : goal.returns-in-4
+returns-in-4 c = simp (c.in-4.is, c.reg_reg.ensures)
+
+pub returns-in-5 : goal.returns-in-5
+returns-in-5 c = simp (c.in-5.is, c.reg_reg-in-5.ensures)
+
+pub returns-in-6 : goal.returns-in-6
+returns-in-6 c = simp (c.in-6.is, c.reg_reg-in-6.ensures)
+
+pub returns-in-7 : goal.returns-in-7
+returns-in-7 c = simp (c.in-7.is, c.writes_part-in-7.ensures)
+
+pub returns-in-8 : goal.returns-in-8
+returns-in-8 c = simp (c.in-8.is, c.memory.ensures)
+
+pub returns-in-9 : goal.returns-in-9
+returns-in-9 c = simp (c.in-9.is, c.memory-in-9.ensures)
+
+pub returns-in-10 : goal.returns-in-10
+returns-in-10 c = simp (c.in-10.is, c.memory-in-10.ensures)
+
+pub returns-in-11 : goal.returns-in-11
+returns-in-11 c = simp (c.in-11.is, c.memory-in-11.ensures)
+
+pub returns-in-12 : goal.returns-in-12
+returns-in-12 c = simp (c.in-12.is, c.memory-in-12.ensures)
+
+pub returns-in-13 : goal.returns-in-13
+returns-in-13 c = simp (c.in-13.is, c.memory-in-13.ensures)
+
+pub returns-in-14 : goal.returns-in-14
+returns-in-14 c = simp (c.in-14.is, c.memory-in-14.ensures)
+
+pub returns-in-15 : goal.returns-in-15
+returns-in-15 c = simp (c.in-15.is, c.memory-in-15.ensures)
+
+pub returns-in_default : goal.returns-in_default
+returns-in_default c = let r = c.in_default.in_default-own.rest in simp (
+      ne_eqb _ _ r.0.0.0.0.0.0.0.0.0.0.0.0.0.0.0.1,
+      ne_eqb _ _ r.0.0.0.0.0.0.0.0.0.0.0.0.0.0.1,
+      ne_eqb _ _ r.0.0.0.0.0.0.0.0.0.0.0.0.0.1,
+      ne_eqb _ _ r.0.0.0.0.0.0.0.0.0.0.0.0.1,
+      ne_eqb _ _ r.0.0.0.0.0.0.0.0.0.0.0.1,
+      ne_eqb _ _ r.0.0.0.0.0.0.0.0.0.0.1,
+      ne_eqb _ _ r.0.0.0.0.0.0.0.0.0.1,
+      ne_eqb _ _ r.0.0.0.0.0.0.0.0.1,
+      ne_eqb _ _ r.0.0.0.0.0.0.0.1,
+      ne_eqb _ _ r.0.0.0.0.0.0.1,
+      ne_eqb _ _ r.0.0.0.0.0.1,
+      ne_eqb _ _ r.0.0.0.0.1,
+      ne_eqb _ _ r.0.0.0.1,
+      ne_eqb _ _ r.0.0.1,
+      ne_eqb _ _ r.0.1,
+      ne_eqb _ _ r.1,
+    )

@@ -1,9 +1,0 @@
-use borrow.Author.Rules.{rules}
-use Rattle.encoder.proofs.valid.digit_ok.Statement.{statement}
-use Rattle.encoder.proofs.valid.digit_ok.Tie as tie
-
-pub digit_ok_spec : {M : Type 1} → statement M
-digit_ok_spec =
-    tie.close
-    (tie.spec (λ c. search rules) (λ c. search rules) (λ c. search rules) (λ c. rw c.enum_told.given.1)
-    (λ c. rw c.enum-told2.given.1) (λ c. rw c.enum-told3.given.1))

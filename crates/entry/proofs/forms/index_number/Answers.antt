@@ -1,0 +1,6 @@
+use native.Mathlib.Omega.{arith}
+use borrow.Author.Rules.{rules}
+use Rattle.entry.proofs.forms.index_number.Goals as goal
+
+pub returns-in-ByPart : goal.returns-in-ByPart
+returns-in-ByPart c = (rw c.in-ByPart.is, omega arith)

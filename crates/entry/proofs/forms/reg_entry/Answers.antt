@@ -1,0 +1,11 @@
+use borrow.Author.Rules.{rules}
+use Rattle.entry.proofs.forms.reg_entry.Goals as goal
+
+pub returns-in-Byte : goal.returns-in-Byte
+returns-in-Byte c = simp (c.in-Byte.is, c.build.ensures, c.by_16.ensures.0, c.op_number.ensures)
+
+pub returns-in-Word : goal.returns-in-Word
+returns-in-Word c = simp (c.in-Word.is, c.build-in-Word.ensures, c.by_16-in-Word.ensures.0, c.op_number-in-Word.ensures)
+
+pub returns-in-Long : goal.returns-in-Long
+returns-in-Long c = simp (c.in-Long.is, c.build-in-Long.ensures, c.by_8.ensures.0, c.op_number-in-Long.ensures)

@@ -1,0 +1,7 @@
+use Rattle.entry.specs.Entry.{counted}
+use borrow.Author.Rules.{rules}
+use Rattle.execute.proofs.counted.Goals as goal
+
+pub returns : goal.returns
+unfolding counted
+returns c = λ b rom ram. simp (c.done.ensures, c.next.ensures) (c.counts-g.ensures 2 _ b rom ram)

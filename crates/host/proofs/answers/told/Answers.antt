@@ -1,0 +1,7 @@
+use mathlib.Core.List.{[], ◌∷◌}
+use Rattle.host.proofs.Told.{stored_told}
+use borrow.Author.Rules.{rules}
+use Rattle.host.proofs.answers.told.Goals as goal
+
+pub returns : goal.returns
+returns c = let s = c in stored_told (s.args.n ∷ s.args.p ∷ s.args.g ∷ s.args.x ∷ []) s.args.answer.now s.requires c.put_four.ensures

@@ -1,0 +1,9 @@
+use Rattle.host.specs.Replays.{replay_left}
+use Rattle.host.specs.MirrorReplays.{replay_told}
+use Rattle.host.proofs.Told.{beside}
+use borrow.Author.Rules.{rules}
+use Rattle.host.proofs.replays.replay_lent.Goals as goal
+
+pub returns : goal.returns
+unfolding replay_left replay_told
+returns c = rw (← c.board_in-b.ensures, ← c.registers_in.ensures, ← c.replay-q.ensures) (beside _ c.tell_replay.ensures)

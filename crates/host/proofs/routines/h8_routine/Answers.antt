@@ -1,0 +1,26 @@
+use borrow.Author.Tests.{lt-ltb, le-ltb}
+use mathlib.Core.Path.{refl}
+use Rattle.host.specs.Routines.{routine_call}
+use Rattle.host.proofs.Told.{leave}
+use borrow.Author.Rules.{rules}
+use Rattle.host.proofs.routines.h8_routine.Goals as goal
+
+pub returns-then-answer-lt15 : goal.returns-then-answer-lt15
+unfolding routine_call
+returns-then-answer-lt15 c = rw (lt-ltb _ _ c.if-answer-lt15.true)
+
+pub returns-then-regs-lt-REGISTERS : goal.returns-then-regs-lt-REGISTERS
+unfolding routine_call
+returns-then-regs-lt-REGISTERS c = rw (le-ltb _ _ c.if-answer-lt15.false, lt-ltb _ _ c.if-regs-lt-REGISTERS.true) (leave c.not_run.ensures refl refl)
+
+pub returns-then-budget-gt1000000 : goal.returns-then-budget-gt1000000
+unfolding routine_call
+returns-then-budget-gt1000000 c = rw (le-ltb _ _ c.if-answer-lt15.false, le-ltb _ _ c.if-regs-lt-REGISTERS.false, lt-ltb _ _ c.if-budget-gt1000000.true) (leave c.not_run-then-budget-gt1000000.ensures refl refl)
+
+pub returns-then-number_at-gt255 : goal.returns-then-number_at-gt255
+unfolding routine_call
+returns-then-number_at-gt255 c = rw (le-ltb _ _ c.if-answer-lt15.false, le-ltb _ _ c.if-answer-lt15.false, le-ltb _ _ c.if-regs-lt-REGISTERS.false, ← c.number_at.ensures, lt-ltb _ _ c.if-number_at-gt255.true) (leave c.not_run-then-number_at-gt255.ensures refl refl)
+
+pub returns : goal.returns
+unfolding routine_call
+returns c = rw (le-ltb _ _ c.if-answer-lt15.false, le-ltb _ _ c.if-answer-lt15.false, le-ltb _ _ c.if-regs-lt-REGISTERS.false, ← c.number_at.ensures, le-ltb _ _ c.if-number_at-gt255.false) c.routine_lent.ensures

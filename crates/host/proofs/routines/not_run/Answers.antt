@@ -1,0 +1,9 @@
+use mathlib.Core.Path.{◌∙◌}
+use Rattle.layout.specs.Lent.{eight_of}
+use Rattle.host.specs.Routines.{unrun}
+use borrow.Author.Rules.{rules}
+use Rattle.host.proofs.routines.not_run.Goals as goal
+
+pub returns : goal.returns
+unfolding unrun eight_of
+returns c = c.told_kept.ensures ∙ rw (c.group.ensures, c.place.ensures, c.number.ensures)

@@ -1,0 +1,9 @@
+use Rattle.host.specs.Routines.{routine_left}
+use Rattle.host.specs.MirrorSteps.{routine_kept}
+use Rattle.host.proofs.Told.{beside}
+use borrow.Author.Rules.{rules}
+use Rattle.host.proofs.routines.routine_lent.Goals as goal
+
+pub returns : goal.returns
+unfolding routine_left routine_kept
+returns c = rw (← c.board_in-b.ensures, ← c.registers_in.ensures, ← c.routine-q.ensures) (beside _ c.tell_routine.ensures)

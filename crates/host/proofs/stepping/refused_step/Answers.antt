@@ -1,0 +1,8 @@
+use mathlib.Core.Path.{◌∙◌}
+use Rattle.host.specs.Steps.{step_answer}
+use borrow.Author.Rules.{rules}
+use Rattle.host.proofs.stepping.refused_step.Goals as goal
+
+pub returns : goal.returns
+unfolding step_answer
+returns c = c.told_step.ensures ∙ rw (c.group.ensures, c.place.ensures, c.number.ensures)

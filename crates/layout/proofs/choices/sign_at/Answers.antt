@@ -1,0 +1,12 @@
+use borrow.Author.Tests.{eq-eqb, ne_eqb}
+use Rattle.layout.specs.MirrorChoices.{sign_at}
+use borrow.Author.Rules.{rules}
+use Rattle.layout.proofs.choices.sign_at.Goals as goal
+
+pub returns-in-0 : goal.returns-in-0
+unfolding sign_at
+returns-in-0 c = rw c.in-0.is
+
+pub returns-in_default : goal.returns-in_default
+unfolding sign_at
+returns-in_default c = search (rules, eq-eqb, ne_eqb)

@@ -1,0 +1,7 @@
+use Rattle.layout.specs.Board.{board_of}
+use borrow.Author.Rules.{rules}
+use Rattle.layout.proofs.lent.board_in.Goals as goal
+
+pub returns : goal.returns
+unfolding board_of
+returns c = rw (c.site_in.ensures, c.number_at.ensures)

@@ -1,0 +1,5 @@
+use borrow.Author.Rules.{rules}
+use Rattle.layout.proofs.lent.put_upper.Goals as goal
+
+pub returns : goal.returns
+returns c = simp c.put_four_wide_at.ensures

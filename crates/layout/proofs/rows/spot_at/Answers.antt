@@ -1,0 +1,16 @@
+use borrow.Author.Tests.{ne_eqb}
+use Rattle.layout.specs.MirrorRows.{spot_at}
+use borrow.Author.Rules.{rules}
+use Rattle.layout.proofs.rows.spot_at.Goals as goal
+
+pub returns-in-0 : goal.returns-in-0
+unfolding spot_at
+returns-in-0 c = simp (c.in-0.is, c.low8.ensures)
+
+pub returns-in-1 : goal.returns-in-1
+unfolding spot_at
+returns-in-1 c = simp (c.in-1.is, c.low8-in-1.ensures)
+
+pub returns-in_default : goal.returns-in_default
+unfolding spot_at
+returns-in_default c = simp (ne_eqb _ _ c.in_default.in_default-own.rest.0.1, ne_eqb _ _ c.in_default.in_default-own.rest.1, c.low8-in_default.ensures)

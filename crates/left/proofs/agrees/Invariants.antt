@@ -1,0 +1,16 @@
+use Prim.Native.Nat.{ℕ, ◌+◌, ◌-◌, ◌*◌, ◌%◌, ◌≤◌, ◌<◌}
+use mathlib.Core.Path.{◌≡◌, refl, sym, ◌∙◌}
+use native.Mathlib.Omega.{arith}
+use native.Mathlib.Nat.{sub-zero}
+use lib.ListN.{length, drop}
+use borrow.Author.Rules.{rules}
+use Rattle.left.specs.Left.{agrees}
+use Rattle.left.specs.MirrorTable.{patterns_in}
+use Rattle.left.proofs.Table.{differs, goes_on, all_gone, tests}
+use Rattle.left.proofs.agrees.Given as goal
+
+abbrev pub invariant-loop-j : goal.invariant-loop-j
+invariant-loop-j l = (l.j ≤ l.n) × (l.n < 256) × (agrees (patterns_in (l.n - l.j) l.a l.b) (drop l.j l.s) ≡ agrees (patterns_in (l.count % 256) l.least l.most) l.s)
+
+abbrev pub decreases-loop-j : goal.decreases-loop-j
+decreases-loop-j l = l.n - l.j

@@ -1,0 +1,31 @@
+use mathlib.Core.Path.{refl}
+use native.Mathlib.Omega.{arith}
+use lib.ListN.{length}
+use Rattle.codes.proofs.Laws.{bytes_of}
+use Rattle.listing.specs.Listing.{flow_at}
+use Rattle.listing.proofs.Listed.{listing}
+use Rattle.levels.proofs.Filled.{fitting_is, off, on, entry_row, filled}
+use borrow.Author.Rules.{rules}
+use Rattle.levels.proofs.fill.Goals as goal
+
+pub returns-then-not-fit : goal.returns-then-not-fit
+returns-then-not-fit c = rw (off c.fits-fit.ensures c.if-not-fit.true) (refl, refl)
+
+pub path_cost-requires : goal.path_cost-requires
+path_cost-requires c = let g = (fitting_is _ _ _ (on c.fits-fit.ensures c.if-not-fit.false)).lent in ((g, omega arith), (λ h. absurd (omega arith)))
+
+pub unpack-requires : goal.unpack-requires
+unpack-requires c = let g = (fitting_is _ _ _ (on c.fits-fit.ensures c.if-not-fit.false)).lent in
+    record { even = g.even; small = g.small; room = omega (arith, g.room, c.path_cost.ensures.costed.same_length); levels = g.levels }
+
+pub returns : goal.returns
+returns c = let l = c in
+    let s = l in
+    let fit = on c.fits-fit.ensures c.if-not-fit.false in
+    let f = fitting_is _ _ _ fit in
+    let g = f.lent in
+    let n = c.path_cost.ensures in
+    let flow = flow_at s.args.k s.args.rom.now in
+    let len = length s.args.rom.now in
+    let L = listing s.args.k s.args.rom.now (bytes_of s.args.rom.now (λ k. omega (arith, l.shared_slice_known.given k))) g.even g.small in
+    rw (fit, c.level_row-r.ensures) (entry_row flow len L (omega (arith, g.even)) n s.args.entry f.entry_even, filled flow len L (omega (arith, g.even)) n c.unpack.ensures)

@@ -1,0 +1,22 @@
+use mathlib.Core.Path.{◌≡◌, refl, ap, ◌∙◌}
+use Prim.Native.Nat.{◌-◌, ◌%◌, ◌≤◌}
+use native.Mathlib.Nat.{le_refl}
+use native.Mathlib.Omega.{arith}
+use lib.ListN.{length, length-set}
+use borrow.Author.Rules.{rules}
+use Rattle.codes.proofs.Laws.{bytes_of}
+use Rattle.listing.specs.Listing.{flow_at}
+use Rattle.listing.proofs.Listed.{listing}
+use Rattle.paths.specs.declared.Flow.{Flow}
+use Rattle.paths.specs.MirrorPacked.{notes_of}
+use Rattle.paths.proofs.Table.{stored_length, stored_rest}
+use Rattle.levels.specs.Levels.{Rest, NotedFrom}
+use Rattle.levels.proofs.Turns.{one_note}
+use Rattle.levels.proofs.note.Given as goal
+
+-- `note` meets its contract, from the top down. Assumes nothing.
+abbrev pub invariant-loop-p : goal.invariant-loop-p
+invariant-loop-p l = (l.p ≤ length l.rom) × (l.p % 2 ≡ 0) × (length l.table ≡ length l.initial.table) × NotedFrom (flow_at l.k l.rom) (length l.rom) l.table l.p × Rest (length l.rom) l.initial.table l.table
+
+abbrev pub decreases-loop-p : goal.decreases-loop-p
+decreases-loop-p l = l.p

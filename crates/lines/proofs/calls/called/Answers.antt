@@ -1,0 +1,5 @@
+use Rattle.std.proofs.Common.{rules}
+use Rattle.lines.proofs.calls.called.Goals as goal
+
+pub returns : goal.returns
+returns c = rw (← c.flow_at-f.ensures, ← c.entered.ensures) ((cc))

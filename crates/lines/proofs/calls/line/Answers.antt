@@ -1,0 +1,6 @@
+use Rattle.text.proofs.Adding.{more}
+use Rattle.std.proofs.Common.{rules}
+use Rattle.lines.proofs.calls.line.Goals as goal
+
+pub returns : goal.returns
+returns c = more c.inside_text-l.ensures c.last_number.ensures

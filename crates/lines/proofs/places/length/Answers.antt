@@ -1,0 +1,5 @@
+use Rattle.std.proofs.Common.{rules}
+use Rattle.lines.proofs.places.length.Goals as goal
+
+pub returns-in-Code : goal.returns-in-Code
+returns-in-Code c = rw c.in-Code.is ((cc))

@@ -1,0 +1,15 @@
+use Rattle.listing.specs.Listing.{branch_flow}
+use borrow.Author.Tests.{eq-eqb, ne_eqb}
+use Rattle.listing.proofs.branch.Goals as goal
+
+pub returns-then-c-eq0 : goal.returns-then-c-eq0
+unfolding branch_flow
+returns-then-c-eq0 c = simp (eq-eqb _ _ c.if-c-eq0.true)
+
+pub returns-then-c-eq1 : goal.returns-then-c-eq1
+unfolding branch_flow
+returns-then-c-eq1 c = simp (ne_eqb _ _ c.if-c-eq0.false, eq-eqb _ _ c.if-c-eq1.true)
+
+pub returns : goal.returns
+unfolding branch_flow
+returns c = simp (ne_eqb _ _ c.if-c-eq0.false, ne_eqb _ _ c.if-c-eq1.false)

@@ -1,0 +1,6 @@
+use mathlib.Core.Path.{◌∙◌}
+use borrow.Author.Rules.{rules}
+use Rattle.memory.proofs.write.Goals as goal
+
+pub returns : goal.returns
+returns c = (c.store-put.ensures, rw c.touch.ensures.0 at c.note_put.ensures)

@@ -1,0 +1,6 @@
+use Rattle.text.proofs.Adding.{more}
+use borrow.Author.Rules.{rules}
+use Rattle.mnemonics.proofs.names.byte_reg.Goals as goal
+
+pub returns : goal.returns
+returns c = more c.put-a.ensures (more c.which-b.ensures c.which_half.ensures)

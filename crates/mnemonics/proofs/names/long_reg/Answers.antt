@@ -1,0 +1,6 @@
+use Rattle.text.proofs.Adding.{more}
+use borrow.Author.Rules.{rules}
+use Rattle.mnemonics.proofs.names.long_reg.Goals as goal
+
+pub returns : goal.returns
+returns c = more c.bytes-a.ensures c.which.ensures

@@ -1,0 +1,5 @@
+use borrow.Author.Rules.{rules}
+use Rattle.mnemonics.proofs.names.op_name.Goals as goal
+
+pub returns : goal.returns
+returns c = rw (← c.op_at.ensures) c.named.ensures

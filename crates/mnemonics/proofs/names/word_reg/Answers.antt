@@ -1,0 +1,6 @@
+use Rattle.text.proofs.Adding.{more}
+use borrow.Author.Rules.{rules}
+use Rattle.mnemonics.proofs.names.word_reg.Goals as goal
+
+pub returns : goal.returns
+returns c = more c.which_word-a.ensures c.which.ensures

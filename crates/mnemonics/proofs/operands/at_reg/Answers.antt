@@ -1,0 +1,6 @@
+use Rattle.text.proofs.Adding.{more}
+use borrow.Author.Rules.{rules}
+use Rattle.mnemonics.proofs.operands.at_reg.Goals as goal
+
+pub returns : goal.returns
+returns c = more c.put-l.ensures c.long_reg.ensures

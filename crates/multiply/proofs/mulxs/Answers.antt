@@ -1,0 +1,8 @@
+use Rattle.registers.specs.Parts.{part_of, with_part}
+use Rattle.multiply.specs.Multiply.{multiply_of, put_of}
+use borrow.Author.Rules.{rules}
+use Rattle.multiply.proofs.mulxs.Goals as goal
+
+pub returns : goal.returns
+unfolding multiply_of put_of part_of with_part
+returns c = λ pc. simp (c.with_product.ensures, c.put.ensures, c.mulxs-x.ensures, c.get-b.ensures, c.factor_width.ensures, c.get-a.ensures, c.product_width-w.ensures)

@@ -1,0 +1,7 @@
+use Rattle.operate.specs.Operate.{ccr_of, changed}
+use Rattle.std.proofs.Common.{rules}
+use Rattle.operate.proofs.andc.Goals as goal
+
+pub returns : goal.returns
+unfolding ccr_of changed
+returns c = λ er pc. simp (c.condition.ensures, c.and.ensures, c.byte.ensures)

@@ -1,0 +1,7 @@
+use Rattle.registers.specs.Parts.{part_of, with_part}
+use Rattle.std.proofs.Common.{rules}
+use Rattle.operate.proofs.inc.Goals as goal
+
+pub returns : goal.returns
+unfolding part_of with_part
+returns c = λ pc. simp (c.with_counted.ensures, c.put.ensures, c.inc-x.ensures, c.get.ensures)

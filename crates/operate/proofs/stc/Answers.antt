@@ -1,0 +1,8 @@
+use Rattle.registers.specs.Parts.{part_of, with_part}
+use Rattle.operate.specs.Operate.{stc_of}
+use Rattle.std.proofs.Common.{rules}
+use Rattle.operate.proofs.stc.Goals as goal
+
+pub returns : goal.returns
+unfolding stc_of with_part
+returns c = λ pc. simp (c.put.ensures, c.byte.ensures)

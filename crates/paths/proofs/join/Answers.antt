@@ -1,0 +1,7 @@
+use Rattle.paths.specs.MirrorPacked.{packed_join}
+use Rattle.std.proofs.Common.{rules}
+use Rattle.paths.proofs.join.Goals as goal
+
+pub returns : goal.returns
+unfolding packed_join
+returns c = cc

@@ -1,0 +1,7 @@
+use Rattle.std.proofs.Common.{refl, rules}
+use Rattle.paths.specs.MirrorPacked.{notes_for}
+use Rattle.paths.proofs.notes_for.Goals as goal
+
+pub returns : goal.returns
+unfolding notes_for
+returns c = refl

@@ -1,0 +1,7 @@
+use Rattle.registers.specs.Condition.{byte_of}
+use borrow.Author.Rules.{rules}
+use Rattle.registers.proofs.Condition.byte.Goals as goal
+
+pub returns : goal.returns
+unfolding byte_of
+returns c = cc

@@ -1,9 +1,0 @@
-use borrow.Author.Rules.{rules}
-use Rattle.registers.proofs.put.Statement.{statement}
-use Rattle.registers.proofs.put.Tie as tie
-
-pub put_spec : {M : Type 1} → statement M
-put_spec =
-    tie.close
-    (tie.spec (λ c. search rules) (λ c. search rules) (λ c. search rules) (λ c κs. search rules) (λ c. search rules) (λ c. search rules)
-    (λ c. cc))

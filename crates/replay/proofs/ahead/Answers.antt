@@ -1,0 +1,5 @@
+use borrow.Author.Rules.{rules}
+use Rattle.replay.proofs.ahead.Goals as goal
+
+pub returns-in-Records : goal.returns-in-Records
+returns-in-Records c = rw c.in-Records.is

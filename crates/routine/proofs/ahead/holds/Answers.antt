@@ -1,0 +1,7 @@
+use Rattle.memory.specs.Access.{inside}
+use borrow.Author.Rules.{rules}
+use Rattle.routine.proofs.ahead.holds.Goals as goal
+
+pub returns : goal.returns
+unfolding inside
+returns c = search rules

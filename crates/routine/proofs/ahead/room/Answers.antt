@@ -1,0 +1,7 @@
+use Rattle.routine.specs.MirrorTurn.{room_at}
+use borrow.Author.Rules.{rules}
+use Rattle.routine.proofs.ahead.room.Goals as goal
+
+pub returns : goal.returns
+unfolding room_at
+returns c = cc

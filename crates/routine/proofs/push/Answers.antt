@@ -1,0 +1,5 @@
+use borrow.Author.Rules.{rules}
+use Rattle.routine.proofs.push.Goals as goal
+
+pub returns : goal.returns
+returns c = rw (c.make.ensures, c.put.ensures)

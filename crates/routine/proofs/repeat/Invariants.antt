@@ -1,0 +1,29 @@
+use Prim.Native.Nat.{ℕ, ◌+◌, ◌-◌, ◌*◌, ◌≤◌}
+use mathlib.Core.Path.{◌≡◌, refl, sym, ◌∙◌}
+use mathlib.Core.Bool.{true, ◌&&◌}
+use mathlib.Core.List.{List, []}
+use native.Mathlib.Nat.{sub-zero}
+use native.Mathlib.Omega.{arith}
+use lib.ListN.{length}
+use borrow.Author.Rules.{rules}
+use Rattle.memory.specs.Board.{good_board}
+use Rattle.step.specs.Step.{good_pc}
+use Rattle.routine.specs.Routine.{routineFrom}
+use Rattle.routine.specs.declared.Ending.{Ending}
+use Rattle.routine.specs.declared.Going.TheVariants.{On, Ends}
+use Rattle.routine.proofs.Kept.{Carries, none_carried}
+use Rattle.routine.proofs.Loop.{Again, Last, stops, spent, few_steps, turn_again, turn_last}
+use Rattle.routine.proofs.turn.Reads as turn-reads
+use Rattle.routine.proofs.repeat.Reads as reads
+use Rattle.routine.proofs.repeat.Lts as lts
+use Rattle.routine.proofs.repeat.Given as goal
+
+-- `routine::repeat` meets its contract. The invariant: the addresses are those that a run of the mode keeps, and what is left of the run is what the whole
+-- run comes to. The measure is what is left of the budget. Assumes nothing.
+abbrev pub invariant-loop-q : goal.invariant-loop-q
+invariant-loop-q l =
+    (length l.ram ≡ length l.initial.ram) × (l.steps ≤ l.budget) × (l.states ≤ l.steps * 4294967295) × (good_board l.b (length l.rom) (length l.ram) && good_pc l.q.pc ≡ true)
+    × ((ks : List ℕ) × Carries l.kept l.count ks × (routineFrom l.b l.rom l.stop (l.budget - l.steps) l.ram l.q ks l.steps l.states ≡ routineFrom l.b l.rom l.stop l.budget l.initial.ram l.initial.q [] 0 0))
+
+abbrev pub decreases-loop-q : goal.decreases-loop-q
+decreases-loop-q l = l.budget - l.steps

@@ -1,0 +1,6 @@
+use borrow.Author.Rules.{rules}
+use Rattle.run.proofs.Gathered.{gathered}
+use Rattle.run.proofs.beside.condition_byte.Goals as goal
+
+pub returns : goal.returns
+returns c = rw (c.upper.ensures.0, c.lower.ensures.0) (gathered _)

@@ -1,0 +1,5 @@
+use borrow.Author.Rules.{rules}
+use Rattle.run.proofs.ended.Goals as goal
+
+pub returns : goal.returns
+returns c = simp c.outcome-o.ensures

@@ -1,0 +1,29 @@
+use mathlib.Core.Path.{◌≡◌, ap}
+use mathlib.Core.Bool.{true, false, ◌&&◌}
+use borrow.Author.Tests.{lt-ltb, le-ltb}
+use lib.ListN.{length}
+use Rattle.step.specs.Step.{good_start}
+use Rattle.run.specs.MirrorAlong.{start_of}
+use Rattle.run.specs.declared.Traced.{Traced}
+use borrow.Author.Rules.{rules}
+use Rattle.run.proofs.start.Goals as goal
+
+pub returns-then-budget-gt1000000 : goal.returns-then-budget-gt1000000
+unfolding start_of
+returns-then-budget-gt1000000 c = (rw (lt-ltb _ _ c.if-budget-gt1000000.true, c.answer.ensures), λ h n. absurd (n (ap (λ (q : Traced). q.answer.steps) c.answer.ensures)))
+
+pub repeat-requires : goal.repeat-requires
+unfolding start_of
+repeat-requires c = (search rules, (cc), c.requires.0, c.requires.1)
+
+pub returns-then-good_board-good_pc : goal.returns-then-good_board-good_pc
+unfolding start_of
+returns-then-good_board-good_pc c = let s = c.args in
+    let g : good_start s.b s.rom.now s.ram.now s.r ≡ true = cc in
+    (rw (le-ltb _ _ c.if-budget-gt1000000.false, g) c.repeat.ensures.0, c.repeat.ensures.1)
+
+pub returns : goal.returns
+unfolding start_of
+returns c = let s = c.args in
+    let g : good_start s.b s.rom.now s.ram.now s.r ≡ false = cc in
+    (rw (le-ltb _ _ c.if-budget-gt1000000.false, g, c.answer-2.ensures), λ h n. absurd (n (ap (λ (q : Traced). q.answer.steps) c.answer-2.ensures)))

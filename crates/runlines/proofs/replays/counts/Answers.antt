@@ -1,0 +1,6 @@
+use Rattle.text.proofs.Adding.{more}
+use borrow.Author.Rules.{rules}
+use Rattle.runlines.proofs.replays.counts.Goals as goal
+
+pub returns : goal.returns
+returns c = more c.number-a.ensures c.number.ensures

@@ -1,0 +1,6 @@
+use Rattle.text.proofs.Adding.{more}
+use borrow.Author.Rules.{rules}
+use Rattle.runlines.proofs.routines.ninth_words.Goals as goal
+
+pub returns : goal.returns
+returns c = more c.bytes-l.ensures (more c.place-l.ensures c.bytes.ensures)

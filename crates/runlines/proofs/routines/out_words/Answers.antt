@@ -1,0 +1,6 @@
+use Rattle.text.proofs.Adding.{more}
+use borrow.Author.Rules.{rules}
+use Rattle.runlines.proofs.routines.out_words.Goals as goal
+
+pub returns : goal.returns
+returns c = rw (← c.kept_last-to.ensures) (more c.counts_words-b.ensures c.ended_words.ensures)

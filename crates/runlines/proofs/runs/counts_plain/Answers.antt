@@ -1,0 +1,6 @@
+use Rattle.text.proofs.Adding.{more}
+use borrow.Author.Rules.{rules}
+use Rattle.runlines.proofs.runs.counts_plain.Goals as goal
+
+pub returns : goal.returns
+returns c = more c.number-b.ensures c.number.ensures

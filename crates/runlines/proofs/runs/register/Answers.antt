@@ -1,0 +1,6 @@
+use Rattle.text.proofs.Adding.{more}
+use borrow.Author.Rules.{rules}
+use Rattle.runlines.proofs.runs.register.Goals as goal
+
+pub returns : goal.returns
+returns c = more c.put-l.ensures (more c.put-l-2.ensures (more c.put-l-3.ensures (more c.put-l-4.ensures (more c.put-l-5.ensures (more c.put-l-6.ensures (more c.put-l-7.ensures c.hex8.ensures))))))

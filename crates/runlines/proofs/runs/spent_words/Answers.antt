@@ -1,0 +1,6 @@
+use Rattle.text.proofs.Adding.{more}
+use borrow.Author.Rules.{rules}
+use Rattle.runlines.proofs.runs.spent_words.Goals as goal
+
+pub returns : goal.returns
+returns c = more c.bytes-l.ensures (more c.decimal-l.ensures c.put.ensures)

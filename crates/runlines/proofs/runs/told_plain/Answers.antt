@@ -1,0 +1,6 @@
+use Rattle.text.proofs.Adding.{more}
+use borrow.Author.Rules.{rules}
+use Rattle.runlines.proofs.runs.told_plain.Goals as goal
+
+pub returns : goal.returns
+returns c = more c.counts_plain-b.ensures c.why_plain.ensures

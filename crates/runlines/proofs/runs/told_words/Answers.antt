@@ -1,0 +1,6 @@
+use Rattle.text.proofs.Adding.{more}
+use borrow.Author.Rules.{rules}
+use Rattle.runlines.proofs.runs.told_words.Goals as goal
+
+pub returns : goal.returns
+returns c = more c.counts_words-b.ensures c.why_words.ensures

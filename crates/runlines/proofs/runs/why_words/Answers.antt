@@ -1,0 +1,11 @@
+use borrow.Author.Rules.{rules}
+use Rattle.runlines.proofs.runs.why_words.Goals as goal
+
+pub returns-in-AtStop : goal.returns-in-AtStop
+returns-in-AtStop c = rw c.in-AtStop.is c.stop_words.ensures
+
+pub returns-in-Spent : goal.returns-in-Spent
+returns-in-Spent c = rw c.in-Spent.is c.spent_words.ensures
+
+pub returns-in-Halted : goal.returns-in-Halted
+returns-in-Halted c = rw c.in-Halted.is c.halted_words.ensures

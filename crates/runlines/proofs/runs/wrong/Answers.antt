@@ -1,0 +1,6 @@
+use Rattle.text.proofs.Adding.{more}
+use borrow.Author.Rules.{rules}
+use Rattle.runlines.proofs.runs.wrong.Goals as goal
+
+pub returns : goal.returns
+returns c = more c.before-l.ensures (more c.argument-l.ensures c.put.ensures)

@@ -1,0 +1,6 @@
+use Rattle.text.proofs.Adding.{more}
+use borrow.Author.Rules.{rules}
+use Rattle.runlines.proofs.traces.last_four.Goals as goal
+
+pub returns : goal.returns
+returns c = more c.one-a.ensures c.last_three.ensures

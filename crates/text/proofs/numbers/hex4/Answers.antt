@@ -1,0 +1,6 @@
+use Rattle.text.proofs.Adding.{more}
+use borrow.Author.Rules.{rules}
+use Rattle.text.proofs.numbers.hex4.Goals as goal
+
+pub returns : goal.returns
+returns c = more c.hex2-a.ensures c.hex2.ensures

@@ -1,0 +1,5 @@
+use borrow.Author.Rules.{rules}
+use Rattle.timing.proofs.extended.Goals as goal
+
+pub returns : goal.returns
+returns c = simp c.exts.ensures

@@ -1,0 +1,21 @@
+use native.Mathlib.Omega.{arith}
+use borrow.Author.Rules.{rules}
+use Rattle.timing.proofs.parts.place_base.Goals as goal
+
+pub returns-in-At : goal.returns-in-At
+returns-in-At c = (rw c.in-At.is, omega arith)
+
+pub returns-in-Step : goal.returns-in-Step
+returns-in-Step c = (rw c.in-Step.is, omega arith)
+
+pub returns-in-Disp : goal.returns-in-Disp
+returns-in-Disp c = (rw c.in-Disp.is, omega arith)
+
+pub returns-in-Abs8 : goal.returns-in-Abs8
+returns-in-Abs8 c = (rw c.in-Abs8.is, omega arith)
+
+pub returns-in-Abs16 : goal.returns-in-Abs16
+returns-in-Abs16 c = (rw c.in-Abs16.is, omega arith)
+
+pub returns-in-Abs24 : goal.returns-in-Abs24
+returns-in-Abs24 c = (rw c.in-Abs24.is, omega arith)

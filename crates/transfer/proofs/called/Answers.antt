@@ -1,0 +1,8 @@
+use Rattle.turns.proofs.Laws.{deed_done}
+use mathlib.Core.Path.{sym}
+use Rattle.transfer.proofs.Laws.{push_told}
+use borrow.Author.Rules.{rules}
+use Rattle.transfer.proofs.called.Goals as goal
+
+pub returns : goal.returns
+returns c = (λ pc. rw c.ended.ensures (push_told _ _ _ _ pc _ _ _ _ _ _ _ (rw (sym c.get-at.ensures) c.access.ensures.0) (c.call-e.ensures.0 pc)), λ pc o. c.call-e.ensures.1 pc (deed_done _ _ _ _ c.ended.ensures o))

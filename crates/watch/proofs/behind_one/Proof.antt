@@ -1,9 +1,0 @@
-use borrow.Author.Rules.{rules}
-use Rattle.watch.proofs.behind_one.Statement.{statement}
-use Rattle.watch.proofs.behind_one.Tie as tie
-
-pub behind_one_spec : {M : Type 1} → statement M
-behind_one_spec =
-    tie.close
-    (tie.spec (λ c. search rules) (λ c. search rules) (λ c. search rules) (λ c. rw c.enum_told.given.1)
-    (λ c. rw c.before.m.given.1) (λ c. rw c.before.m2.given.1))

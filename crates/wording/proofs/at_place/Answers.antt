@@ -1,0 +1,6 @@
+use Rattle.text.proofs.Adding.{more}
+use borrow.Author.Rules.{rules}
+use Rattle.wording.proofs.at_place.Goals as goal
+
+pub returns : goal.returns
+returns c = more c.decimal-l.ensures (more c.bytes-l.ensures (more c.place-l.ensures (more c.put-l.ensures c.put.ensures)))

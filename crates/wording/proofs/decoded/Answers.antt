@@ -1,0 +1,14 @@
+use mathlib.Core.Path.{◌∙◌}
+use lib.ListN.{drop_of_length-le}
+use Rattle.listing.specs.Listing.{decoded_at}
+use Rattle.listing.proofs.Part.{part_decoded}
+use borrow.Author.Rules.{rules}
+use Rattle.wording.proofs.decoded.Goals as goal
+
+pub returns-then-at-rom : goal.returns-then-at-rom
+unfolding decoded_at
+returns-then-at-rom c = c.decode_at.ensures.1 ∙ part_decoded c.args.rom.now c.args.p
+
+pub returns : goal.returns
+unfolding decoded_at
+returns c = rw (drop_of_length-le _ c.if-at-rom.false) c.decode_at-2.ensures.1

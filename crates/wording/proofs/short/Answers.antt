@@ -1,0 +1,6 @@
+use Rattle.text.proofs.Adding.{more}
+use borrow.Author.Rules.{rules}
+use Rattle.wording.proofs.short.Goals as goal
+
+pub returns : goal.returns
+returns c = more c.bytes-l.ensures (more c.decimal-l.ensures c.bytes.ensures)
