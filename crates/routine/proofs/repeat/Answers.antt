@@ -8,7 +8,7 @@ use lib.ListN.{length}
 use borrow.Author.Rules.{rules}
 use Rattle.memory.specs.Board.{good_board}
 use Rattle.step.specs.Step.{good_pc}
-use Rattle.routine.specs.Routine.{routineFrom}
+use Rattle.routine.specs.Routine.{routine_from}
 use Rattle.routine.specs.declared.Ending.{Ending}
 use Rattle.routine.specs.declared.Going.TheVariants.{On, Ends}
 use Rattle.routine.proofs.Kept.{Carries, none_carried}

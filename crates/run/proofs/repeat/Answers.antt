@@ -17,7 +17,7 @@ use Rattle.turns.proofs.Laws.{refused_stays, no_turn}
 use Rattle.run.specs.MirrorTrail.{trail_at, Last}
 use Rattle.run.proofs.Quiet.{quiet_counted, quiet_turned, quiet_turned_long}
 use Rattle.run.specs.MirrorKept.{Keeps}
-use Rattle.run.specs.MirrorAlong.{alongFrom}
+use Rattle.run.specs.MirrorAlong.{along_from}
 use Rattle.run.proofs.Turns.{no_kind, outside, by_kind_lem, by_trail, step_is, as_done, not_stopped, not_halted, turn_done, turn_refused, same_registers, same_memory, pc_fits, stops, spent, strayed, length_kept, still_good, goes_on, refused}
 use Rattle.run.proofs.beside.strays.Reads as strays-reads
 use Rattle.run.proofs.kept.look.Reads as look-reads
