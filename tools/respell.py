@@ -84,7 +84,7 @@ def main():
     rest = sorted(glob.glob("crates/*/src/**/*.rt", recursive=True) + glob.glob("crates/*/edits/*.edit") + glob.glob("crates/*/must-fail/*.edit"))
     turned, kept = {}, collections.Counter()
     for path in antt:
-        for name in [] if path.endswith(("/Answers.antt", "/Invariants.antt")) else names_of(path):
+        for name in [] if "/proofs/" in path and path.endswith(("/Answers.antt", "/Invariants.antt")) else names_of(path):
             if wants(name):
                 turned[name] = snake(name)
             else:
