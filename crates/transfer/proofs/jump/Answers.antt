@@ -22,11 +22,11 @@ use Rattle.transfer.proofs.jump.Goals as goal
 
 pub returns-in-0 : goal.returns-in-0
 unfolding jumps base_of part_of aim_of follow_of effect_of
-returns-in-0 c = let a = c.args in rw (c.in-0.is, c.done.ensures, c.get.ensures) record { did = done_acts (Jmp (ByReg (a.x % 8))) 2 _ a.er.now a.pc a.f a.b a.rom.now a.ram.now refl (λ (r : Registers). r) _ _ refl refl (λ _. refl); told = λ pc o. refl }
+returns-in-0 c = let a = c.args in rw (c.in-0.is, c.done.ensures, c.get.ensures) (record { did = done_acts (Jmp (ByReg (a.x % 8))) 2 _ a.er.now a.pc a.f a.b a.rom.now a.ram.now refl (λ (r : Registers). r) _ _ refl refl (λ _. refl); told = λ pc o. refl })
 
 pub returns-in-1 : goal.returns-in-1
 unfolding jumps base_of part_of aim_of follow_of effect_of
-returns-in-1 c = let a = c.args in rw (c.in-1.is, c.done-in-1.ensures) record { did = done_acts (Jmp (Direct (a.x % 16777216))) 4 _ a.er.now a.pc a.f a.b a.rom.now a.ram.now refl (λ (r : Registers). r) _ _ refl refl (λ _. refl); told = λ pc o. refl }
+returns-in-1 c = let a = c.args in rw (c.in-1.is, c.done-in-1.ensures) (record { did = done_acts (Jmp (Direct (a.x % 16777216))) 4 _ a.er.now a.pc a.f a.b a.rom.now a.ram.now refl (λ (r : Registers). r) _ _ refl refl (λ _. refl); told = λ pc o. refl })
 
 pub returns-in-2 : goal.returns-in-2
 unfolding jumps base_of part_of aim_of follow_of effect_of
@@ -54,32 +54,32 @@ returns-in-7 c = rw c.in-7.is c.call_vector.ensures
 
 pub returns-in-8 : goal.returns-in-8
 unfolding jumps base_of part_of aim_of follow_of effect_of
-returns-in-8 c = let a = c.args in rw (c.in-8.is, c.done-in-8.ensures, c.next-in-8.ensures) record { did = done_acts (Multiply Unsigned Eight (a.x / 16 % 16) (a.x % 16)) 2 _ a.er.now a.pc a.f a.b a.rom.now a.ram.now refl (multiply_of Unsigned Eight (a.x / 16 % 16) (a.x % 16)) _ _ refl refl c.mulxu.ensures; told = λ pc o. refl }
+returns-in-8 c = let a = c.args in rw (c.in-8.is, c.done-in-8.ensures, c.next-in-8.ensures) (record { did = done_acts (Multiply Unsigned Eight (a.x / 16 % 16) (a.x % 16)) 2 _ a.er.now a.pc a.f a.b a.rom.now a.ram.now refl (multiply_of Unsigned Eight (a.x / 16 % 16) (a.x % 16)) _ _ refl refl c.mulxu.ensures; told = λ pc o. refl })
 
 pub returns-in-9 : goal.returns-in-9
 unfolding jumps base_of part_of aim_of follow_of effect_of
-returns-in-9 c = let a = c.args in rw (c.in-9.is, c.done-in-9.ensures, c.next-in-9.ensures) record { did = done_acts (Multiply Unsigned Sixteen (a.x / 8 % 16) (a.x % 8)) 2 _ a.er.now a.pc a.f a.b a.rom.now a.ram.now refl (multiply_of Unsigned Sixteen (a.x / 8 % 16) (a.x % 8)) _ _ refl refl c.mulxu-in-9.ensures; told = λ pc o. refl }
+returns-in-9 c = let a = c.args in rw (c.in-9.is, c.done-in-9.ensures, c.next-in-9.ensures) (record { did = done_acts (Multiply Unsigned Sixteen (a.x / 8 % 16) (a.x % 8)) 2 _ a.er.now a.pc a.f a.b a.rom.now a.ram.now refl (multiply_of Unsigned Sixteen (a.x / 8 % 16) (a.x % 8)) _ _ refl refl c.mulxu-in-9.ensures; told = λ pc o. refl })
 
 pub returns-in-10 : goal.returns-in-10
 unfolding jumps base_of part_of aim_of follow_of effect_of
-returns-in-10 c = let a = c.args in rw (c.in-10.is, c.done-in-10.ensures, c.next-in-10.ensures) record { did = done_acts (Multiply Signed Eight (a.x / 16 % 16) (a.x % 16)) 4 _ a.er.now a.pc a.f a.b a.rom.now a.ram.now refl (multiply_of Signed Eight (a.x / 16 % 16) (a.x % 16)) _ _ refl refl c.mulxs.ensures; told = λ pc o. refl }
+returns-in-10 c = let a = c.args in rw (c.in-10.is, c.done-in-10.ensures, c.next-in-10.ensures) (record { did = done_acts (Multiply Signed Eight (a.x / 16 % 16) (a.x % 16)) 4 _ a.er.now a.pc a.f a.b a.rom.now a.ram.now refl (multiply_of Signed Eight (a.x / 16 % 16) (a.x % 16)) _ _ refl refl c.mulxs.ensures; told = λ pc o. refl })
 
 pub returns-in-11 : goal.returns-in-11
 unfolding jumps base_of part_of aim_of follow_of effect_of
-returns-in-11 c = let a = c.args in rw (c.in-11.is, c.done-in-11.ensures, c.next-in-11.ensures) record { did = done_acts (Multiply Signed Sixteen (a.x / 8 % 16) (a.x % 8)) 4 _ a.er.now a.pc a.f a.b a.rom.now a.ram.now refl (multiply_of Signed Sixteen (a.x / 8 % 16) (a.x % 8)) _ _ refl refl c.mulxs-in-11.ensures; told = λ pc o. refl }
+returns-in-11 c = let a = c.args in rw (c.in-11.is, c.done-in-11.ensures, c.next-in-11.ensures) (record { did = done_acts (Multiply Signed Sixteen (a.x / 8 % 16) (a.x % 8)) 4 _ a.er.now a.pc a.f a.b a.rom.now a.ram.now refl (multiply_of Signed Sixteen (a.x / 8 % 16) (a.x % 8)) _ _ refl refl c.mulxs-in-11.ensures; told = λ pc o. refl })
 
 pub returns-in-12 : goal.returns-in-12
 unfolding jumps base_of part_of aim_of follow_of effect_of
-returns-in-12 c = let a = c.args in rw (c.in-12.is, c.ended.ensures, c.next-in-12.ensures) record { did = ended_acts (Divide Unsigned Eight (a.x / 16 % 16) (a.x % 16)) 2 _ a.er.now a.pc a.f a.b a.rom.now a.ram.now refl _ a.ram.now _ refl (ap (λ (q : Effect). stepped q a.ram.now) c.divxu.ensures); told = λ pc o. refl }
+returns-in-12 c = let a = c.args in rw (c.in-12.is, c.ended.ensures, c.next-in-12.ensures) (record { did = ended_acts (Divide Unsigned Eight (a.x / 16 % 16) (a.x % 16)) 2 _ a.er.now a.pc a.f a.b a.rom.now a.ram.now refl _ a.ram.now _ refl (ap (λ (q : Effect). stepped q a.ram.now) c.divxu.ensures); told = λ pc o. refl })
 
 pub returns-in-13 : goal.returns-in-13
 unfolding jumps base_of part_of aim_of follow_of effect_of
-returns-in-13 c = let a = c.args in rw (c.in-13.is, c.ended-in-13.ensures, c.next-in-13.ensures) record { did = ended_acts (Divide Unsigned Sixteen (a.x / 8 % 16) (a.x % 8)) 2 _ a.er.now a.pc a.f a.b a.rom.now a.ram.now refl _ a.ram.now _ refl (ap (λ (q : Effect). stepped q a.ram.now) c.divxu-in-13.ensures); told = λ pc o. refl }
+returns-in-13 c = let a = c.args in rw (c.in-13.is, c.ended-in-13.ensures, c.next-in-13.ensures) (record { did = ended_acts (Divide Unsigned Sixteen (a.x / 8 % 16) (a.x % 8)) 2 _ a.er.now a.pc a.f a.b a.rom.now a.ram.now refl _ a.ram.now _ refl (ap (λ (q : Effect). stepped q a.ram.now) c.divxu-in-13.ensures); told = λ pc o. refl })
 
 pub returns-in-14 : goal.returns-in-14
 unfolding jumps base_of part_of aim_of follow_of effect_of
-returns-in-14 c = let a = c.args in rw (c.in-14.is, c.ended-in-14.ensures, c.next-in-14.ensures) record { did = ended_acts (Divide Signed Eight (a.x / 16 % 16) (a.x % 16)) 4 _ a.er.now a.pc a.f a.b a.rom.now a.ram.now refl _ a.ram.now _ refl (ap (λ (q : Effect). stepped q a.ram.now) c.divxs.ensures); told = λ pc o. refl }
+returns-in-14 c = let a = c.args in rw (c.in-14.is, c.ended-in-14.ensures, c.next-in-14.ensures) (record { did = ended_acts (Divide Signed Eight (a.x / 16 % 16) (a.x % 16)) 4 _ a.er.now a.pc a.f a.b a.rom.now a.ram.now refl _ a.ram.now _ refl (ap (λ (q : Effect). stepped q a.ram.now) c.divxs.ensures); told = λ pc o. refl })
 
 pub returns-in_default : goal.returns-in_default
 unfolding jumps base_of part_of aim_of follow_of effect_of
-returns-in_default c = let a = c.args in let r = c.in_default.in_default-own.rest in rw (ne_eqb _ _ r.0.0.0.0.0.0.0.0.0.0.0.0.0.0.1, ne_eqb _ _ r.0.0.0.0.0.0.0.0.0.0.0.0.0.1, ne_eqb _ _ r.0.0.0.0.0.0.0.0.0.0.0.0.1, ne_eqb _ _ r.0.0.0.0.0.0.0.0.0.0.0.1, ne_eqb _ _ r.0.0.0.0.0.0.0.0.0.0.1, ne_eqb _ _ r.0.0.0.0.0.0.0.0.0.1, ne_eqb _ _ r.0.0.0.0.0.0.0.0.1, ne_eqb _ _ r.0.0.0.0.0.0.0.1, ne_eqb _ _ r.0.0.0.0.0.0.1, ne_eqb _ _ r.0.0.0.0.0.1, ne_eqb _ _ r.0.0.0.0.1, ne_eqb _ _ r.0.0.0.1, ne_eqb _ _ r.0.0.1, ne_eqb _ _ r.0.1, ne_eqb _ _ r.1, c.ended-in_default.ensures, c.next-in_default.ensures) record { did = ended_acts (Divide Signed Sixteen (a.x / 8 % 16) (a.x % 8)) 4 _ a.er.now a.pc a.f a.b a.rom.now a.ram.now refl _ a.ram.now _ refl (ap (λ (q : Effect). stepped q a.ram.now) c.divxs-in_default.ensures); told = λ pc o. refl }
+returns-in_default c = let a = c.args in let r = c.in_default.in_default-own.rest in rw (ne_eqb _ _ r.0.0.0.0.0.0.0.0.0.0.0.0.0.0.1, ne_eqb _ _ r.0.0.0.0.0.0.0.0.0.0.0.0.0.1, ne_eqb _ _ r.0.0.0.0.0.0.0.0.0.0.0.0.1, ne_eqb _ _ r.0.0.0.0.0.0.0.0.0.0.0.1, ne_eqb _ _ r.0.0.0.0.0.0.0.0.0.0.1, ne_eqb _ _ r.0.0.0.0.0.0.0.0.0.1, ne_eqb _ _ r.0.0.0.0.0.0.0.0.1, ne_eqb _ _ r.0.0.0.0.0.0.0.1, ne_eqb _ _ r.0.0.0.0.0.0.1, ne_eqb _ _ r.0.0.0.0.0.1, ne_eqb _ _ r.0.0.0.0.1, ne_eqb _ _ r.0.0.0.1, ne_eqb _ _ r.0.0.1, ne_eqb _ _ r.0.1, ne_eqb _ _ r.1, c.ended-in_default.ensures, c.next-in_default.ensures) (record { did = ended_acts (Divide Signed Sixteen (a.x / 8 % 16) (a.x % 8)) 4 _ a.er.now a.pc a.f a.b a.rom.now a.ram.now refl _ a.ram.now _ refl (ap (λ (q : Effect). stepped q a.ram.now) c.divxs-in_default.ensures); told = λ pc o. refl })
