@@ -432,7 +432,7 @@ fn run_room(rt: &impl Runtime, q: Request, u: Use) -> io::Result<()> {
     run_file(rt, q, u, rom.as_mut_slice(), &mut ram, &mut again)
 }
 
-fn asked_of(rt: &impl Runtime) -> io::Result<()> {
+fn tool(rt: &impl Runtime) -> io::Result<()> {
     if ask::asks_help(rt) {
         return help::show_help(rt);
     }
@@ -457,7 +457,7 @@ fn asked_of(rt: &impl Runtime) -> io::Result<()> {
 
 // Who reads the output may want no more of it; that is no error.
 fn main(rt: HostRuntime) -> io::Result<()> {
-    match asked_of(&rt) {
+    match tool(&rt) {
         Err(e) if e.kind() == ErrorKind::BrokenPipe => Ok(()),
         ended => ended,
     }
