@@ -3,7 +3,7 @@
 -- What is not valid has a number here too, that of its neighbours; no promise rests on it.
 use Rattle.std.specs.Prelude.{ℕ}
 use Rattle.codes.specs.Names.{Width, Byte, Word, Long, Op, Add, Sub, Cmp, Mov, Addx, Subx, Or, Xor, And, Source, Reg, Imm}
-use Rattle.codes.specs.Names.{Take, Give, Index, Spot, InPart, AtEr, AtAbs}
+use Rattle.codes.specs.Names.{Spot, InPart, AtEr, AtAbs}
 use Rattle.codes.specs.Names.{Half, Eight, Sixteen, Sign, Unsigned, Signed}
 use Rattle.codes.specs.Names.{Place, At, Step, Disp, Abs8, Abs16, Abs24, Reach, Near, Far, Target, ByReg, Direct, Vector}
 use Rattle.codes.specs.Names.{Instruction, Nop, Stc, LdcReg, Ccr, Alu, IncDec, AddsSubs, Decimal, Shift, Unary, Multiply, Divide, Takes, Gives, Move, Bcc, Jmp, Bsr, Jsr, Rts}

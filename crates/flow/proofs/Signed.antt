@@ -2,21 +2,19 @@
 -- Assumes nothing.
 use mathlib.Core.Path.{◌≡◌, refl, sym, ap, ◌∙◌}
 use mathlib.Core.Logic.{◌⊎◌, inl, inr, ⊎_elim}
-use mathlib.Core.Bool.{cond}
-use Prim.Native.Nat.{ℕ, zero, suc, ◌+◌, ◌-◌, ◌*◌, ◌/◌, ◌%◌, ◌^◌, ◌≤◌, ◌<◌}
+use Prim.Native.Nat.{ℕ, zero, suc, ◌+◌, ◌-◌, ◌*◌, ◌%◌, ◌^◌, ◌≤◌, ◌<◌}
 use native.Mathlib.Decide.{dec_le}
 use native.Mathlib.Omega.{arith}
 use lib.IntN.{ℤ, pos, negsuc, sub_ℕ, ◌+ℤ◌, ◌-ℤ◌, nat_abs}
 use lib.Signed.{mag, non_neg}
-use lib.Dec.{T, ltb}
+use lib.Dec.{T}
 use mir.Syntax.{w32, w64}
 use mir.Val.{to_z, of_z, Fits, SFits}
 use mir.ValLaws.{to_z_pos, to_z-of_z}
 use native.Mathlib.Nat.{mod-eq_of_lt}
 use borrow.Author.Tests.{lt-ltb, le-ltb, lt-leb, le-leb}
 use Rattle.codes.specs.declared.Reach.{Reach}
-use Rattle.codes.specs.declared.Reach.TheVariants.{Near, Far}
-use Rattle.arith.specs.Widths.{top_bit, signed_of}
+use Rattle.arith.specs.Widths.{signed_of}
 use Rattle.flow.specs.Targets.{displacement_of, address_of, target_of}
 
 minus : (a b : ℕ) → pos a -ℤ pos b ≡ sub_ℕ a b

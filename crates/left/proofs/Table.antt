@@ -8,7 +8,7 @@ use lib.Dec.{ltb}
 use lib.ListN.{get_or, length, drop}
 use lib.Seq.{drop-cons}
 use borrow.Author.Tests.{ltb-true, ltb-false, not-true}
-use Rattle.left.specs.Left.{Pattern, fits, agrees, Row, row, group_in}
+use Rattle.left.specs.Left.{Pattern, fits, agrees, group_in}
 use Rattle.left.specs.MirrorTable.{between, patterns_in, code_in, rows_in}
 
 nothing_left : (c : List Pattern) → agrees c [] ≡ true

@@ -2,7 +2,7 @@
 -- "3 MOV with displacement d:24; 4 LDC and STC with memory; 5 EEPMOV; 6 TRAPA, RTE and SLEEP; 7 MOVFPE and MOVTPE". Groups 1 and 2 are held.
 -- Behind each row its line there and on its page of section 2.2; the damaged lines of 2.4 are read from the page, and STC.W CCR,@-ERd, which neither
 -- has, from document 000.
-use Rattle.std.specs.Prelude.{ℕ, ◌/◌, ◌%◌, Bool, true, false, cond, ◌&&◌, List, [], ◌∷◌, leb}
+use Rattle.std.specs.Prelude.{ℕ, ◌/◌, ◌%◌, Bool, true, cond, ◌&&◌, List, [], ◌∷◌, leb}
 
 -- a byte of a code: its upper digit from and to, its lower digit from and to
 pub record Pattern : Type 0 where

@@ -1,12 +1,12 @@
 -- What a trail tells: each read and write the accesses of its definition, the earlier first. Assumes nothing.
-use Prim.Native.Nat.{ℕ, ◌+◌, ◌*◌, ◌/◌, ◌%◌, ◌^◌, ◌<◌}
+use Prim.Native.Nat.{ℕ, ◌+◌, ◌*◌, ◌/◌, ◌%◌, ◌<◌}
 use mathlib.Core.Path.{◌≡◌, refl}
-use mathlib.Core.Bool.{Bool, true, false, cond}
-use mathlib.Core.List.{List, [], ◌∷◌, ◌++◌}
+use mathlib.Core.Bool.{Bool, true, false}
+use mathlib.Core.List.{[], ◌++◌}
 use native.Mathlib.Omega.{arith}
 use Rattle.arith.specs.declared.Width.{Width}
 use Rattle.arith.specs.declared.Width.TheVariants.{Byte, Word, Long}
-use Rattle.memory.specs.Access.{address, even_address, second_address}
+use Rattle.memory.specs.Access.{address, even_address}
 use Rattle.memory.specs.Told.{accesses_at}
 use Rattle.memory.specs.Trail.{first_of, touch_of, noted, call_in, trail_in}
 

@@ -1,6 +1,6 @@
 -- Laws of paths, over any listing.
 -- Assumes nothing.
-use Rattle.std.proofs.Common.{◌≡◌, ℕ, zero, suc, ◌+◌, ◌*◌, ◌%◌, ◌<◌, ◌≤◌, min, max, cond, eqb, ◌⊎◌, sym, refl, subst, inl, inr, ⊎_elim, le_refl, le_antisymm, arith, ne_eqb}
+use Rattle.std.proofs.Common.{◌≡◌, ℕ, suc, ◌+◌, ◌%◌, ◌<◌, ◌≤◌, min, max, cond, eqb, ◌⊎◌, sym, refl, subst, inl, inr, ⊎_elim, le_refl, le_antisymm, arith, ne_eqb}
 use native.Mathlib.Nat.{min-eq_left, min-eq_right, max-eq_left, max-eq_right}
 use native.Mathlib.Decide.{dec_le}
 use Rattle.refusal.specs.declared.Refusal.{Refusal}

@@ -1,7 +1,7 @@
 -- A start has one run, so that `Bounded` speaks of the run; and what a run does within a budget is a beginning of it. Over any machine whose step has one
 -- answer, and so over the mode that keeps its pushed addresses.
 -- Assumes nothing.
-use Rattle.std.proofs.Common.{◌≡◌, ℕ, ◌+◌, ◌<◌, ◌≤◌, ◌⊎◌, List, [], ◌∷◌, length, sym, refl, ap, subst, inl, inr, arith}
+use Rattle.std.proofs.Common.{◌≡◌, ℕ, ◌+◌, ◌<◌, ◌≤◌, List, [], ◌∷◌, length, sym, refl, ap, subst, arith}
 use Rattle.refusal.specs.declared.Refusal.{Refusal}
 use Rattle.machine.specs.Machine.{Machine, Leaving, ninth, elsewhere, Steps, none, more}
 use Rattle.machine.specs.Keeping.{Keeps, keeps, Moves, went, called, came, home, Ends, at_ninth, at_elsewhere, keeping}

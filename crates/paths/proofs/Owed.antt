@@ -4,7 +4,7 @@ use Rattle.std.proofs.Common.{◌≡◌, ℕ, zero, suc, ◌+◌, ◌<◌, ◌�
 use Rattle.refusal.specs.declared.Refusal.TheVariants.{TooDeep, FetchOutside}
 use Rattle.paths.specs.declared.Flow.{Flow}
 use Rattle.paths.specs.declared.Flow.TheVariants.{Next, Jump, Either, Call, Ends, Stop}
-use Rattle.paths.specs.Paths.{Leads, Enters, count_of, Forbidden, stop, deep, Open, Path, ends, goes, calls, here, Largest, Clear}
+use Rattle.paths.specs.Paths.{Leads, Enters, count_of, Forbidden, stop, deep, Open, Path, ends, goes, calls, here, Clear}
 use Rattle.paths.proofs.Laws.{le_or, up, clear_open, clear_on, clear_into}
 
 module _ (flow : ℕ → Flow) where

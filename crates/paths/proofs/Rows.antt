@@ -1,16 +1,16 @@
 -- What the code reckons is what `Paths` says of a place: its row, and where its longest way goes on.
 -- Assumes nothing.
-use Rattle.std.proofs.Common.{◌≡◌, ℕ, zero, suc, ◌+◌, ◌-◌, ◌*◌, ◌/◌, ◌%◌, ◌^◌, ◌<◌, ◌≤◌, min, max, ◌⊎◌, List, get_or, sym, refl, ◌∙◌, subst, inl, inr, ⊎_elim, arith, le-ltb, lt-ltb, eq-eqb, ne_eqb, le-leb}
+use Rattle.std.proofs.Common.{◌≡◌, ℕ, zero, suc, ◌+◌, ◌-◌, ◌%◌, ◌^◌, ◌<◌, ◌≤◌, min, max, ◌⊎◌, List, get_or, sym, refl, subst, inl, inr, ⊎_elim, arith, le-ltb, lt-ltb, ne_eqb, le-leb}
 use borrow.Author.Tests.{lt-leb}
 use Rattle.refusal.specs.declared.Refusal.{Refusal}
 use Rattle.refusal.specs.declared.Refusal.TheVariants.{NotUpward, TooDeep, TooLong}
 use Rattle.paths.specs.declared.Reckoned.{Reckoned}
 use Rattle.paths.specs.declared.Flow.{Flow}
 use Rattle.paths.specs.declared.Flow.TheVariants.{Next, Jump, Either, Call, Ends, Stop}
-use Rattle.paths.specs.Paths.{IsPlace, Leads, Enters, count_of, Forbidden, stop, back, deep, Open, IsFigure, Over, Row, figure, over, refused, RowsFrom}
+use Rattle.paths.specs.Paths.{IsPlace, Leads, Enters, count_of, Forbidden, stop, back, deep, Open, Row, figure, over, refused, RowsFrom}
 use Rattle.paths.specs.Levels.{Held, totals, bars, HeldIs, LevelFrom}
 use Rattle.paths.specs.MirrorRows.{row_of, level_of, shown_of, total_of, joined, called_of, upward_of, entered_of, reckoned_of, why_of, turned_of, own_of}
-use Rattle.paths.proofs.Laws.{le_or, Both, both_next, both_jump, both_either, Listing, up, no_way_stop, no_call_stop, held_stop, held_ends, held_join, held_call, held_small, held_cast, held_low, held_outside, row_outside, meets_in}
+use Rattle.paths.proofs.Laws.{le_or, Both, both_next, both_jump, both_either, Listing, up, no_way_stop, no_call_stop, held_stop, held_ends, held_join, held_call, held_small, held_outside, row_outside, meets_in}
 
 -- a place is allowed if its ways go up, and a call is with a level left
 open_both : (flow : ℕ → Flow) {d p : ℕ} (n t : ℕ) → Both (flow p) n t → p < n → p < t → Open flow d p

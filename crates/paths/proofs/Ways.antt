@@ -5,9 +5,9 @@ use Rattle.paths.specs.declared.Flow.{Flow}
 use Rattle.paths.specs.declared.Flow.TheVariants.{Next, Jump, Either, Call, Ends, Stop}
 use Rattle.paths.specs.declared.WayOn.{WayOn}
 use Rattle.paths.specs.declared.WayOn.TheVariants.{On, Home}
-use Rattle.paths.specs.Paths.{IsPlace, Leads, Enters, count_of, stop, Path, ends, goes, calls, Largest, IsFigure, Over, Row, figure, over, refused, RowsFrom, Follows, home, on, past, NextOnTie}
+use Rattle.paths.specs.Paths.{IsPlace, Leads, Enters, count_of, stop, Path, ends, goes, calls, Largest, IsFigure, Row, figure, over, refused, RowsFrom, Follows, home, on, past, NextOnTie}
 use Rattle.paths.specs.MirrorRows.{row_of, better_of, onward_of}
-use Rattle.paths.proofs.Laws.{le_or, Both, both_next, both_jump, both_either, Listing, up, no_way_ends, no_call_ends, clear_open, clear_on, clear_into, clear_in, call_largest, largest_one, largest_join, largest_ends, row_one}
+use Rattle.paths.proofs.Laws.{le_or, Both, both_next, both_jump, both_either, Listing, up, no_way_ends, clear_open, clear_on, clear_into, clear_in, call_largest, largest_one, largest_join, largest_ends}
 use Rattle.paths.proofs.Levels.{path_down, clear_up, level_less}
 use Rattle.paths.proofs.Owed.{clear_path}
 use Rattle.paths.proofs.Rows.{row_at}

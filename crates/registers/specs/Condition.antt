@@ -1,5 +1,5 @@
 -- The condition byte: I, UI, H, U, N, Z, V, C from bit 7 to 0 (manual 002:470-500), and which of its bits each group of instructions changes (section 2.2).
-use Rattle.std.specs.Prelude.{ℕ, ◌+◌, ◌*◌, ◌/◌, ◌%◌, Bool, true, false, ◌&&◌}
+use Rattle.std.specs.Prelude.{ℕ, ◌+◌, ◌*◌, ◌/◌, Bool, false, ◌&&◌}
 use Rattle.arith.specs.Widths.{num, low_bit}
 use Rattle.arith.specs.declared.Sum.{Sum}
 use Rattle.arith.specs.declared.Counted.{Counted}

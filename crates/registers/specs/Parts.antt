@@ -1,6 +1,6 @@
 -- The parts of the registers by their digits (document 01, "Codes"; manual 002:1141-1164), and PC.
 -- Byte: 0 to 7 are R0H to R7H, 8 to F are R0L to R7L. Word: 0 to 7 are R0 to R7, 8 to F are E0 to E7. ERn is En above Rn.
-use Rattle.std.specs.Prelude.{ℕ, ◌+◌, ◌*◌, ◌/◌, ◌%◌, ◌^◌, ◌≤◌, cond, ◌≡◌, List, ltb, get_or, set}
+use Rattle.std.specs.Prelude.{ℕ, ◌+◌, ◌*◌, ◌/◌, ◌%◌, ◌^◌, ◌≤◌, cond, ◌≡◌, ltb, get_or, set}
 use Rattle.arith.specs.Widths.{bits_of}
 use Rattle.arith.specs.declared.Width.{Width}
 use Rattle.arith.specs.declared.Width.TheVariants.{Byte, Word, Long}

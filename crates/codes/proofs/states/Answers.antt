@@ -6,7 +6,6 @@ use denote.Enum.Declared.{tag_of}
 use Rattle.codes.specs.contracts.Instruction.{the_type}
 use Rattle.codes.specs.States.{states_of}
 use Rattle.codes.specs.Names.{Instruction, Nop, Stc, LdcReg, Ccr, Alu, IncDec, AddsSubs, Decimal, Shift, Unary, Multiply, Divide, Takes, Gives, Move, Bcc, Jmp, Bsr, Jsr, Rts}
-use borrow.Author.Rules.{rules}
 use Rattle.codes.proofs.states.Goals as goal
 
 -- of the instructions that the last arm is for

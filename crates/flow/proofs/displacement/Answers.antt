@@ -1,6 +1,5 @@
 use Rattle.flow.proofs.Signed as law
 use native.Mathlib.Omega.{arith}
-use borrow.Author.Rules.{rules}
 use Rattle.flow.proofs.displacement.Goals as goal
 
 pub returns-in-Near : goal.returns-in-Near

@@ -1,7 +1,6 @@
 use Rattle.flow.proofs.Signed as law
 use mathlib.Core.Path.{refl}
 use native.Mathlib.Omega.{arith}
-use borrow.Author.Rules.{rules}
 use Rattle.flow.proofs.near.Goals as goal
 
 pub overflow_sub-result : goal.overflow_sub-result

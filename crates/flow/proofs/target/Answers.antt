@@ -5,7 +5,6 @@ use Rattle.registers.specs.Parts.{pc_of}
 use Rattle.flow.specs.Targets.{address_of, target_of}
 use Rattle.flow.proofs.Signed as law
 use native.Mathlib.Omega.{arith}
-use borrow.Author.Rules.{rules}
 use Rattle.flow.proofs.target.Goals as goal
 
 pub overflow_cast-by : goal.overflow_cast-by

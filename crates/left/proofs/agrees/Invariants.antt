@@ -1,12 +1,8 @@
-use Prim.Native.Nat.{ℕ, ◌+◌, ◌-◌, ◌*◌, ◌%◌, ◌≤◌, ◌<◌}
-use mathlib.Core.Path.{◌≡◌, refl, sym, ◌∙◌}
-use native.Mathlib.Omega.{arith}
-use native.Mathlib.Nat.{sub-zero}
-use lib.ListN.{length, drop}
-use borrow.Author.Rules.{rules}
+use Prim.Native.Nat.{◌-◌, ◌%◌, ◌≤◌, ◌<◌}
+use mathlib.Core.Path.{◌≡◌}
+use lib.ListN.{drop}
 use Rattle.left.specs.Left.{agrees}
 use Rattle.left.specs.MirrorTable.{patterns_in}
-use Rattle.left.proofs.Table.{differs, goes_on, all_gone, tests}
 use Rattle.left.proofs.agrees.Given as goal
 
 abbrev pub invariant-loop-j : goal.invariant-loop-j

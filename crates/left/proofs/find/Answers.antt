@@ -1,10 +1,5 @@
-use Prim.Native.Nat.{ℕ, ◌+◌, ◌-◌, ◌≤◌, ◌<◌}
-use mathlib.Core.Path.{◌≡◌, refl, sym, ◌∙◌}
-use native.Mathlib.Omega.{arith}
-use lib.ListN.{get_or, length, drop}
+use mathlib.Core.Path.{refl, sym, ◌∙◌}
 use borrow.Author.Rules.{rules}
-use Rattle.left.specs.Left.{group_in}
-use Rattle.left.specs.MirrorTable.{rows_in}
 use Rattle.left.proofs.Table.{found, passed, none}
 use Rattle.left.proofs.find.Goals as goal
 

@@ -1,11 +1,8 @@
-use Prim.Native.Nat.{ℕ, ◌+◌, ◌-◌, ◌≤◌, ◌<◌}
-use mathlib.Core.Path.{◌≡◌, refl, sym, ◌∙◌}
-use native.Mathlib.Omega.{arith}
-use lib.ListN.{get_or, length, drop}
-use borrow.Author.Rules.{rules}
+use Prim.Native.Nat.{◌-◌, ◌≤◌}
+use mathlib.Core.Path.{◌≡◌}
+use lib.ListN.{length, drop}
 use Rattle.left.specs.Left.{group_in}
 use Rattle.left.specs.MirrorTable.{rows_in}
-use Rattle.left.proofs.Table.{found, passed, none}
 use Rattle.left.proofs.find.Given as goal
 
 abbrev pub invariant-loop-k : goal.invariant-loop-k

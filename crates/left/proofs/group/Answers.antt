@@ -1,4 +1,3 @@
-use borrow.Author.Rules.{rules}
 use Rattle.left.specs.MirrorTable.{patterns_in, rows_in}
 use Rattle.left.proofs.group.Goals as goal
 

@@ -1,7 +1,6 @@
 use Prim.Native.Nat.{ℕ, zero, suc, ◌+◌, ◌*◌, ◌%◌}
 use mathlib.Core.Path.{◌≡◌, refl}
 use native.Mathlib.Omega.{arith}
-use borrow.Author.Rules.{rules}
 use Rattle.refusal.specs.declared.Refusal.TheVariants.{UnknownCode, LeftOut}
 use Rattle.left.specs.Unheld.{unheld_of}
 use Rattle.left.proofs.refusal.Goals as goal

@@ -1,4 +1,3 @@
-use borrow.Author.Rules.{rules}
 use Rattle.left.proofs.unheld.Goals as goal
 
 pub returns : goal.returns

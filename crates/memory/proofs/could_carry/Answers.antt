@@ -1,5 +1,4 @@
 use Rattle.memory.specs.Board.{could_carry}
-use borrow.Author.Rules.{rules}
 use Rattle.memory.proofs.could_carry.Goals as goal
 
 pub returns : goal.returns

@@ -1,4 +1,3 @@
-use borrow.Author.Rules.{rules}
 use Rattle.memory.proofs.good_area.Goals as goal
 
 pub returns : goal.returns

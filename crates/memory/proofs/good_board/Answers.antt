@@ -1,5 +1,4 @@
 use Rattle.memory.specs.Board.{good_board}
-use borrow.Author.Rules.{rules}
 use Rattle.memory.proofs.good_board.Goals as goal
 
 pub returns : goal.returns

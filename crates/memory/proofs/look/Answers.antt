@@ -1,5 +1,4 @@
 use Rattle.memory.specs.Access.{read_of}
-use borrow.Author.Rules.{rules}
 use Rattle.memory.proofs.look.Goals as goal
 
 pub returns-in-Byte : goal.returns-in-Byte

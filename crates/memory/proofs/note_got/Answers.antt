@@ -1,5 +1,4 @@
 use Rattle.memory.specs.Trail.{got_noted}
-use borrow.Author.Rules.{rules}
 use Rattle.memory.proofs.note_got.Goals as goal
 
 pub returns-in-Value : goal.returns-in-Value

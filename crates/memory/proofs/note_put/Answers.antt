@@ -1,5 +1,4 @@
 use Rattle.memory.specs.Trail.{put_noted}
-use borrow.Author.Rules.{rules}
 use Rattle.memory.proofs.note_put.Goals as goal
 
 pub returns-in-Stored : goal.returns-in-Stored

@@ -1,5 +1,4 @@
 use Rattle.memory.proofs.Cases.{loads}
-use borrow.Author.Rules.{rules}
 use Rattle.memory.proofs.read_long.Goals as goal
 
 pub overflow_mul-result : goal.overflow_mul-result

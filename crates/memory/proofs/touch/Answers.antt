@@ -1,6 +1,5 @@
 use native.Mathlib.Omega.{arith}
 use Rattle.memory.specs.Trail.{first_of, touch_of}
-use borrow.Author.Rules.{rules}
 use Rattle.memory.proofs.touch.Goals as goal
 
 pub returns-in-Byte : goal.returns-in-Byte

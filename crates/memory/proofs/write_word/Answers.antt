@@ -1,5 +1,4 @@
 use Rattle.memory.proofs.Cases.{stores}
-use borrow.Author.Rules.{rules}
 use Rattle.memory.proofs.write_word.Goals as goal
 
 pub overflow_sub-p : goal.overflow_sub-p

@@ -1,4 +1,3 @@
-use Rattle.std.proofs.Common.{rules}
 use Rattle.paths.proofs.above.Goals as goal
 
 pub returns : goal.returns

@@ -1,5 +1,5 @@
 use Rattle.paths.specs.MirrorRows.{better_of}
-use Rattle.std.proofs.Common.{rules, le-ltb, lt-ltb}
+use Rattle.std.proofs.Common.{le-ltb, lt-ltb}
 use Rattle.paths.proofs.better.Goals as goal
 
 pub returns-then-a-b : goal.returns-then-a-b

@@ -1,5 +1,4 @@
 use Rattle.paths.specs.MirrorPacked.{packed_call}
-use Rattle.std.proofs.Common.{rules}
 use Rattle.paths.proofs.called.Goals as goal
 
 pub returns : goal.returns

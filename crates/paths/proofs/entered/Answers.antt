@@ -1,5 +1,5 @@
 use Rattle.paths.specs.MirrorPacked.{packed_in}
-use Rattle.std.proofs.Common.{rules, eq-eqb, ne_eqb}
+use Rattle.std.proofs.Common.{eq-eqb, ne_eqb}
 use Rattle.paths.proofs.entered.Goals as goal
 
 pub returns-then-depth-eq0 : goal.returns-then-depth-eq0

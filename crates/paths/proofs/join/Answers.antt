@@ -1,5 +1,4 @@
 use Rattle.paths.specs.MirrorPacked.{packed_join}
-use Rattle.std.proofs.Common.{rules}
 use Rattle.paths.proofs.join.Goals as goal
 
 pub returns : goal.returns

@@ -1,5 +1,5 @@
 use Rattle.paths.specs.MirrorRows.{level_of}
-use Rattle.std.proofs.Common.{rules, le-ltb, lt-ltb, eq-eqb, ne_eqb}
+use Rattle.std.proofs.Common.{le-ltb, lt-ltb}
 use Rattle.paths.proofs.level_row.Goals as goal
 
 pub returns-then-at-len : goal.returns-then-at-len

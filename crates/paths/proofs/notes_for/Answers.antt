@@ -1,4 +1,4 @@
-use Rattle.std.proofs.Common.{refl, rules}
+use Rattle.std.proofs.Common.{refl}
 use Rattle.paths.specs.MirrorPacked.{notes_for}
 use Rattle.paths.proofs.notes_for.Goals as goal
 

@@ -1,5 +1,4 @@
 use Rattle.paths.specs.MirrorRows.{onward_of}
-use Rattle.std.proofs.Common.{rules}
 use Rattle.paths.proofs.onward.Goals as goal
 
 pub returns-in-Next : goal.returns-in-Next

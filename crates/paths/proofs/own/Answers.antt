@@ -1,5 +1,4 @@
 use Rattle.paths.specs.MirrorRows.{own_of}
-use Rattle.std.proofs.Common.{rules}
 use Rattle.paths.proofs.own.Goals as goal
 
 pub returns-in-Next : goal.returns-in-Next

@@ -1,5 +1,5 @@
 use Rattle.paths.specs.MirrorPacked.{packed_at}
-use Rattle.std.proofs.Common.{rules, le-ltb, lt-ltb}
+use Rattle.std.proofs.Common.{le-ltb, lt-ltb}
 use Rattle.paths.proofs.packed_row.Goals as goal
 
 pub returns-then-at-len : goal.returns-then-at-len

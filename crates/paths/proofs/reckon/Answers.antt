@@ -1,5 +1,5 @@
 use Rattle.paths.specs.MirrorPacked.{kind_of, noted_of, packed_flow}
-use Rattle.std.proofs.Common.{rules, eq-eqb, ne_eqb}
+use Rattle.std.proofs.Common.{eq-eqb, ne_eqb}
 use Rattle.paths.proofs.reckon.Goals as goal
 
 pub returns-then-kind-eq0 : goal.returns-then-kind-eq0

@@ -1,5 +1,5 @@
 use Rattle.paths.specs.MirrorRows.{row_of}
-use Rattle.std.proofs.Common.{rules, le-ltb, lt-ltb}
+use Rattle.std.proofs.Common.{le-ltb, lt-ltb}
 use Rattle.paths.proofs.row_of.Goals as goal
 
 pub returns-then-at-len : goal.returns-then-at-len

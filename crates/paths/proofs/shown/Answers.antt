@@ -1,5 +1,5 @@
 use Rattle.paths.specs.MirrorRows.{shown_of}
-use Rattle.std.proofs.Common.{rules, le-ltb, lt-ltb, eq-eqb, ne_eqb}
+use Rattle.std.proofs.Common.{le-ltb, lt-ltb}
 use Rattle.paths.proofs.shown.Goals as goal
 
 pub returns-then-r-gt-LIMIT : goal.returns-then-r-gt-LIMIT

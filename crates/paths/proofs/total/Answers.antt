@@ -1,5 +1,5 @@
 use Rattle.paths.specs.MirrorPacked.{packed_total}
-use Rattle.std.proofs.Common.{rules, le-ltb, lt-ltb}
+use Rattle.std.proofs.Common.{le-ltb, lt-ltb}
 use Rattle.paths.proofs.total.Goals as goal
 
 pub returns-then-top-gt-BAR : goal.returns-then-top-gt-BAR

@@ -1,5 +1,4 @@
 use Rattle.paths.specs.MirrorRows.{turned_of}
-use Rattle.std.proofs.Common.{rules}
 use Rattle.paths.proofs.turned.Goals as goal
 
 pub returns-then-back : goal.returns-then-back

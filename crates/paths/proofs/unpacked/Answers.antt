@@ -1,5 +1,5 @@
 use Rattle.paths.specs.MirrorRows.{unpacked_of}
-use Rattle.std.proofs.Common.{rules, le-ltb, lt-ltb}
+use Rattle.std.proofs.Common.{le-ltb, lt-ltb}
 use Rattle.paths.proofs.unpacked.Goals as goal
 
 pub returns-then-y-gt-BAR : goal.returns-then-y-gt-BAR

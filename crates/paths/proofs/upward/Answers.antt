@@ -1,5 +1,4 @@
 use Rattle.paths.specs.MirrorPacked.{packed_up}
-use Rattle.std.proofs.Common.{rules}
 use Rattle.paths.proofs.upward.Goals as goal
 
 pub returns-then-back : goal.returns-then-back

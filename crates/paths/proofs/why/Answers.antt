@@ -1,5 +1,4 @@
 use Rattle.paths.specs.MirrorRows.{why_of}
-use Rattle.std.proofs.Common.{rules}
 use Rattle.paths.proofs.why.Goals as goal
 
 pub returns-in-Next : goal.returns-in-Next

@@ -10,7 +10,6 @@ use mir.Facts.{Fits-nat_abs}
 use Rattle.arith.specs.Widths.{bits_of}
 use Rattle.products.proofs.Machine.{flips, flipped}
 use Rattle.products.proofs.Signs.{bits_below, bits_above, not_below}
-use borrow.Author.Rules.{rules}
 use Rattle.products.proofs.bits.Goals as goal
 
 below : (c : goal.Then-z-lt0) → lt_z c.args.z (pos 0) ≡ true

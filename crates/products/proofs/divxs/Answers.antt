@@ -12,7 +12,6 @@ use Rattle.products.proofs.Machine.{no_bits}
 use Rattle.products.proofs.Signs.{bits_lt}
 use Rattle.products.proofs.Forms.{form, divides}
 use Rattle.products.proofs.Divisions.{none_signed, over_signed, divided_signed}
-use borrow.Author.Rules.{rules}
 use Rattle.products.proofs.divxs.Lts as lts
 use Rattle.products.proofs.divxs.Tie as tie
 use Rattle.products.proofs.divxs.Reads as reads
@@ -46,7 +45,6 @@ module _ (c : AfterBoth) where
 
   divisor : to_z w64 (of_z w64 c.signed-y.result) ≡ y
   divisor = rw (to_z-of_z w64 c.signed-y.result (record { sfits = c.signed-y.type_inv })) found
-
 
 some : (c : goal.Else-y-eq0) → y c.before ≡ pos 0 → ⊥
 some c e = c.if-y-eq0.false (ap (of_z w64) (found c.before ∙ e))

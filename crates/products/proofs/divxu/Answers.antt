@@ -6,7 +6,6 @@ use lib.Pow.{pow_pos}
 use Rattle.products.specs.Products.{half_bits}
 use Rattle.products.proofs.Forms.{form}
 use Rattle.products.proofs.Divisions.{none, over, divided}
-use borrow.Author.Rules.{rules}
 use Rattle.products.proofs.divxu.Lts as lts
 use Rattle.products.proofs.divxu.Tie as tie
 use Rattle.products.proofs.divxu.Reads as reads
@@ -27,7 +26,6 @@ module _ (c : AfterBoth) where
 
   divisor : c.low_bits-q.result ≡ c.args.b % 2 ^ half_bits c.args.h
   divisor = cc (form c.args.h).narrow
-
 
 pub returns-then-q-eq0 : goal.returns-then-q-eq0
 returns-then-q-eq0 c =

@@ -4,7 +4,6 @@ use mir.ValLaws.{to_z_pos, to_z-of_z}
 use Prim.Native.Nat.{◌/◌}
 use Rattle.arith.specs.Widths.{fits_in}
 use Rattle.products.proofs.Machine.{differs, subtracted}
-use borrow.Author.Rules.{rules}
 use Rattle.products.proofs.has_room.Goals as goal
 
 pub overflow_sub-result : goal.overflow_sub-result

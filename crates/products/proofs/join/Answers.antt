@@ -5,7 +5,6 @@ use native.Mathlib.Omega.{arith}
 use lib.Arith.{digits_lt}
 use Rattle.products.specs.Products.{half_bits}
 use Rattle.products.proofs.Forms.{form}
-use borrow.Author.Rules.{rules}
 use Rattle.products.proofs.join.Goals as goal
 
 digits : {x y m : ℕ} → x < m → y < m → m ≤ 65536 → y * m + x < 4294967296

@@ -5,7 +5,6 @@ use mir.ValLaws.{to_z-of_z}
 use Rattle.arith.specs.Widths.{signed_of}
 use Rattle.products.specs.Products.{half_bits, mulxs_of}
 use Rattle.products.proofs.Forms.{form, multiplies}
-use borrow.Author.Rules.{rules}
 use Rattle.products.proofs.mulxs.Goals as goal
 
 first : (c : goal.After-signed-2) → to_z w64 (of_z w64 c.signed.result) ≡ signed_of (half_bits c.args.h) c.args.a

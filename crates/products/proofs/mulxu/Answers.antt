@@ -2,7 +2,6 @@ use Prim.Native.Nat.{◌%◌, ◌^◌}
 use mathlib.Core.Path.{◌≡◌}
 use Rattle.products.specs.Products.{half_bits, mulxu_of}
 use Rattle.products.proofs.Forms.{form, product}
-use borrow.Author.Rules.{rules}
 use Rattle.products.proofs.mulxu.Goals as goal
 
 pub overflow_mul-result : goal.overflow_mul-result

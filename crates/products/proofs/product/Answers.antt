@@ -3,7 +3,6 @@ use mir.Syntax.{w32, w64}
 use Rattle.products.specs.MirrorRoom.{Multiplies}
 use Rattle.products.specs.declared.Half.TheVariants.{Eight, Sixteen}
 use Rattle.products.proofs.Machine.{kept, found, narrows, kept_narrow, widens, found_narrow}
-use borrow.Author.Rules.{rules}
 use Rattle.products.proofs.product.Goals as goal
 
 byte : (c : goal.In-Eight) → Multiplies Eight c.args.x c.args.y

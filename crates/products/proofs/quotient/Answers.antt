@@ -5,7 +5,6 @@ use mir.ValLaws.{to_z-of_z}
 use Rattle.products.specs.MirrorRoom.{Divides}
 use Rattle.products.specs.declared.Half.TheVariants.{Eight, Sixteen}
 use Rattle.products.proofs.Machine.{kept, found, narrows, kept_narrow, widens, found_narrow, some_bits, quotient_is}
-use borrow.Author.Rules.{rules}
 use Rattle.products.proofs.quotient.Goals as goal
 
 byte : (c : goal.In-Eight) → Divides Eight c.args.x c.args.y

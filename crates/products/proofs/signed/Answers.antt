@@ -5,7 +5,6 @@ use Rattle.arith.specs.Widths.{bits_of}
 use Rattle.arith.proofs.Signed.{twice}
 use Rattle.products.proofs.Machine.{differs, subtracted}
 use Rattle.products.proofs.Signs.{low, high}
-use borrow.Author.Rules.{rules}
 use Rattle.products.proofs.signed.Goals as goal
 
 pub overflow_sub-result : goal.overflow_sub-result

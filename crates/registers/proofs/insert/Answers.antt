@@ -1,7 +1,6 @@
 use borrow.Author.Tests.{lt-ltb, le-ltb}
 use native.Mathlib.Omega.{arith}
 use Rattle.registers.specs.Parts.{insert_of}
-use borrow.Author.Rules.{rules}
 use Rattle.registers.proofs.insert.Goals as goal
 
 pub returns-then-d-lt8 : goal.returns-then-d-lt8

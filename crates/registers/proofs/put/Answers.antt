@@ -1,4 +1,3 @@
-use borrow.Author.Rules.{rules}
 use Rattle.registers.proofs.put.Goals as goal
 
 pub returns : goal.returns

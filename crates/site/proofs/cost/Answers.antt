@@ -1,5 +1,4 @@
 use native.Mathlib.Omega.{arith}
-use borrow.Author.Rules.{rules}
 use Rattle.site.specs.Costs.{cost_of}
 use Rattle.site.proofs.cost.Goals as goal
 

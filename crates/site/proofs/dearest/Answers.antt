@@ -1,5 +1,4 @@
 use native.Mathlib.Omega.{arith}
-use borrow.Author.Rules.{rules}
 use borrow.Author.Tests.{lt-ltb, le-ltb}
 use Rattle.site.specs.Costs.{dearest_of}
 use Rattle.site.proofs.dearest.Goals as goal

@@ -1,7 +1,6 @@
 use native.Mathlib.Omega.{arith}
 use Rattle.memory.specs.Told.{accesses_at}
 use Rattle.timing.specs.Made.{made_at}
-use borrow.Author.Rules.{rules}
 use Rattle.timing.proofs.access.Goals as goal
 
 pub returns-in-Byte : goal.returns-in-Byte

@@ -1,5 +1,4 @@
 use native.Mathlib.Omega.{arith}
-use borrow.Author.Rules.{rules}
 use Rattle.timing.proofs.dearest.Goals as goal
 
 pub returns-in-Byte : goal.returns-in-Byte

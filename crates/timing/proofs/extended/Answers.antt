@@ -1,4 +1,3 @@
-use borrow.Author.Rules.{rules}
 use Rattle.timing.proofs.extended.Goals as goal
 
 pub returns : goal.returns

@@ -1,6 +1,5 @@
 use mathlib.Core.Path.{sym}
 use Rattle.timing.specs.Made.{most_at}
-use borrow.Author.Rules.{rules}
 use Rattle.timing.proofs.most.Goals as goal
 
 pub returns-in-At : goal.returns-in-At

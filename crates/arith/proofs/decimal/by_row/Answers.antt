@@ -1,5 +1,4 @@
 use Rattle.arith.specs.MirrorRows.{by_row}
-use borrow.Author.Rules.{rules}
 use Rattle.arith.proofs.decimal.by_row.Goals as goal
 
 pub returns-then-row-up : goal.returns-then-row-up

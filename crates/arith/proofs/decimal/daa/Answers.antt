@@ -1,7 +1,6 @@
 use mathlib.Core.Path.{◌∙◌}
 use mathlib.Core.Bool.{true, false}
 use Rattle.arith.proofs.Pointed.{daa_pointed_lem}
-use borrow.Author.Rules.{rules}
 use Rattle.arith.proofs.decimal.daa.Goals as goal
 
 pub returns-then-h : goal.returns-then-h

@@ -1,5 +1,4 @@
 use borrow.Author.Tests.{lt-ltb, le-ltb}
-use borrow.Author.Rules.{rules}
 use Rattle.arith.proofs.decimal.daa_carried.Goals as goal
 
 pub returns-then-low-lt10 : goal.returns-then-low-lt10

@@ -1,6 +1,5 @@
 use Rattle.arith.specs.Widths.{bits_of, moved_of}
 use Rattle.arith.proofs.Bitwise.{and_bits}
-use borrow.Author.Rules.{rules}
 use Rattle.arith.proofs.logic.and.Goals as goal
 
 pub returns : goal.returns

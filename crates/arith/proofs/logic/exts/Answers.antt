@@ -1,7 +1,6 @@
 use native.Mathlib.Omega.{arith}
 use Prim.Native.Nat.{◌-◌}
 use Rattle.arith.proofs.Once.{once}
-use borrow.Author.Rules.{rules}
 use Rattle.arith.proofs.logic.exts.Goals as goal
 
 pub overflow_mul-y : goal.overflow_mul-y

@@ -1,4 +1,3 @@
-use borrow.Author.Rules.{rules}
 use Rattle.arith.proofs.logic.not.Goals as goal
 
 pub returns : goal.returns

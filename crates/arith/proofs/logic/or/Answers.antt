@@ -1,6 +1,5 @@
 use Rattle.arith.specs.Widths.{bits_of, moved_of}
 use Rattle.arith.proofs.Bitwise.{or_bits}
-use borrow.Author.Rules.{rules}
 use Rattle.arith.proofs.logic.or.Goals as goal
 
 pub returns : goal.returns

@@ -1,6 +1,5 @@
 use Rattle.arith.specs.Widths.{bits_of, moved_of}
 use Rattle.arith.proofs.Bitwise.{xor_bits}
-use borrow.Author.Rules.{rules}
 use Rattle.arith.proofs.logic.xor.Goals as goal
 
 pub returns : goal.returns

@@ -1,5 +1,4 @@
 use Rattle.arith.specs.Shifts.{left_of}
-use borrow.Author.Rules.{rules}
 use Rattle.arith.proofs.shifts.left.Goals as goal
 
 pub returns : goal.returns

@@ -2,7 +2,6 @@ use Prim.Native.Nat.{◌/◌}
 use native.Mathlib.Omega.{arith}
 use Rattle.arith.proofs.Once.{once}
 use Rattle.arith.specs.Shifts.{right_of}
-use borrow.Author.Rules.{rules}
 use Rattle.arith.proofs.shifts.right.Goals as goal
 
 pub overflow_mul-number : goal.overflow_mul-number

@@ -1,5 +1,4 @@
 use Rattle.arith.specs.Sums.{add_of}
-use borrow.Author.Rules.{rules}
 use Rattle.arith.proofs.shifts.shal.Goals as goal
 
 pub returns : goal.returns

@@ -1,7 +1,6 @@
 use Rattle.arith.specs.Widths.{moved_of}
 use mathlib.Core.Path.{ap}
 use Rattle.arith.specs.declared.Moved.{Moved}
-use borrow.Author.Rules.{rules}
 use Rattle.arith.proofs.shifts.shar.Goals as goal
 
 pub returns : goal.returns

@@ -1,7 +1,6 @@
 use Rattle.arith.specs.Widths.{bits_of}
 use Rattle.arith.proofs.Signed.{over_sum, twice}
 use Rattle.arith.specs.Sums.{add_of}
-use borrow.Author.Rules.{rules}
 use Rattle.arith.proofs.sums.add.Goals as goal
 
 pub returns : goal.returns

@@ -1,5 +1,4 @@
 use Rattle.arith.specs.Sums.{dec_of}
-use borrow.Author.Rules.{rules}
 use Rattle.arith.proofs.sums.dec.Goals as goal
 
 pub returns : goal.returns

@@ -1,5 +1,4 @@
 use Rattle.arith.specs.Sums.{inc_of}
-use borrow.Author.Rules.{rules}
 use Rattle.arith.proofs.sums.inc.Goals as goal
 
 pub returns : goal.returns

@@ -1,5 +1,4 @@
 use Rattle.arith.specs.Sums.{neg_of}
-use borrow.Author.Rules.{rules}
 use Rattle.arith.proofs.sums.neg.Goals as goal
 
 pub returns : goal.returns

@@ -1,7 +1,6 @@
 use Rattle.arith.specs.Widths.{bits_of}
 use Rattle.arith.proofs.Signed.{over_difference, twice}
 use Rattle.arith.specs.Sums.{sub_of}
-use borrow.Author.Rules.{rules}
 use Rattle.arith.proofs.sums.sub.Goals as goal
 
 pub returns : goal.returns

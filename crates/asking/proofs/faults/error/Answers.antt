@@ -1,5 +1,4 @@
 use Rattle.asking.specs.Faults.{error_text}
-use borrow.Author.Rules.{rules}
 use Rattle.asking.proofs.faults.error.Goals as goal
 
 pub returns-then-plain : goal.returns-then-plain

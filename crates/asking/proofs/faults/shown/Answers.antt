@@ -1,5 +1,4 @@
 use Rattle.asking.specs.Faults.{shown_of}
-use borrow.Author.Rules.{rules}
 use Rattle.asking.proofs.faults.shown.Goals as goal
 
 pub returns-then-b : goal.returns-then-b

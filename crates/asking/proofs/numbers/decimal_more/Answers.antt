@@ -1,6 +1,5 @@
 use Rattle.asking.specs.Numbers.{behind}
 use borrow.Author.Tests.{le-leb, le-ltb, lt-leb, lt-ltb}
-use borrow.Author.Rules.{rules}
 use Rattle.asking.proofs.numbers.decimal_more.Goals as goal
 
 pub returns-then-d-ge10 : goal.returns-then-d-ge10

@@ -1,6 +1,5 @@
 use Rattle.asking.specs.Numbers.{digit_of}
 use borrow.Author.Tests.{le-leb, le-ltb, lt-leb, lt-ltb}
-use borrow.Author.Rules.{rules}
 use Rattle.asking.proofs.numbers.digit.Goals as goal
 
 pub returns-then-b-lt48 : goal.returns-then-b-lt48

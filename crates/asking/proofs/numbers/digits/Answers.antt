@@ -1,4 +1,3 @@
-use mathlib.Core.Path.{◌∙◌, ap}
 use Prim.Native.Nat.{◌-◌}
 use native.Mathlib.Nat.{le_refl}
 use lib.ListN.{length, drop, length-drop, drop_of_length-le}

@@ -1,5 +1,4 @@
 use Rattle.asking.specs.Numbers.{grown_of}
-use borrow.Author.Rules.{rules}
 use Rattle.asking.proofs.numbers.grown.Goals as goal
 
 pub returns-then-hex : goal.returns-then-hex

@@ -1,4 +1,3 @@
-use borrow.Author.Rules.{rules}
 use Rattle.asking.proofs.numbers.is_hexed.Goals as goal
 
 pub returns : goal.returns

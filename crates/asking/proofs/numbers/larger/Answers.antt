@@ -1,6 +1,5 @@
 use Rattle.asking.specs.Numbers.{larger_of}
 use borrow.Author.Tests.{le-ltb, lt-ltb}
-use borrow.Author.Rules.{rules}
 use Rattle.asking.proofs.numbers.larger.Goals as goal
 
 pub returns-then-d-lt16 : goal.returns-then-d-lt16

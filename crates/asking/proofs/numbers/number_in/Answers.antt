@@ -1,5 +1,4 @@
 use Rattle.asking.specs.Numbers.{number_of}
-use borrow.Author.Rules.{rules}
 use Rattle.asking.proofs.numbers.number_in.Goals as goal
 
 pub returns-then-is_hexed : goal.returns-then-is_hexed

@@ -1,8 +1,5 @@
-use mathlib.Core.Path.{◌≡◌, refl, sym, ◌∙◌}
-use Prim.Native.Nat.{◌≤◌, ◌-◌}
+use mathlib.Core.Path.{refl, sym, ◌∙◌}
 use borrow.Author.Rules.{rules}
-use lib.ListN.{length, drop}
-use Rattle.asking.specs.Numbers.{read_of}
 use Rattle.asking.proofs.Reading.{next_digit_lem, no_digit}
 use Rattle.asking.proofs.numbers.read.Goals as goal
 

@@ -1,9 +1,7 @@
-use mathlib.Core.Path.{◌≡◌, refl, sym, ◌∙◌}
+use mathlib.Core.Path.{◌≡◌}
 use Prim.Native.Nat.{◌≤◌, ◌-◌}
-use borrow.Author.Rules.{rules}
 use lib.ListN.{length, drop}
 use Rattle.asking.specs.Numbers.{read_of}
-use Rattle.asking.proofs.Reading.{next_digit_lem, no_digit}
 use Rattle.asking.proofs.numbers.read.Given as goal
 
 -- what is left to read brings the number to what is asked

@@ -1,6 +1,5 @@
 use Rattle.asking.specs.Numbers.{whole_of}
 use borrow.Author.Tests.{eq-eqb, ne_eqb}
-use borrow.Author.Rules.{rules}
 use Rattle.asking.proofs.numbers.whole.Goals as goal
 
 pub returns-then-s-eq0 : goal.returns-then-s-eq0

@@ -1,4 +1,3 @@
-use borrow.Author.Rules.{rules}
 use Rattle.asking.proofs.words.asks_help.Goals as goal
 
 pub returns : goal.returns

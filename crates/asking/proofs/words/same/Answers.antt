@@ -1,5 +1,4 @@
 use Rattle.asking.proofs.Texts.{agree}
-use borrow.Author.Rules.{rules}
 use Rattle.asking.proofs.words.same.Goals as goal
 
 pub returns : goal.returns

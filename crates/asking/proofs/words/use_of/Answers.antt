@@ -1,5 +1,4 @@
 use Rattle.asking.specs.Words.{use_of}
-use borrow.Author.Rules.{rules}
 use Rattle.asking.proofs.words.use_of.Goals as goal
 
 pub returns-then-same : goal.returns-then-same

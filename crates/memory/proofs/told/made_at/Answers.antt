@@ -1,5 +1,4 @@
 use Rattle.memory.specs.Told.{accesses_at}
-use borrow.Author.Rules.{rules}
 use Rattle.memory.proofs.told.made_at.Goals as goal
 
 pub returns-in-Byte : goal.returns-in-Byte

@@ -4,7 +4,6 @@ use borrow.Author.Tests.{ne_eqb}
 use Rattle.arith.specs.declared.Width.TheVariants.{Byte, Word, Long}
 use Rattle.memory.specs.Trail.{call_in}
 use Rattle.memory.proofs.Trails.{same_places}
-use borrow.Author.Rules.{rules}
 use Rattle.memory.proofs.told.unpack.Goals as goal
 
 pub returns-in-1 : goal.returns-in-1

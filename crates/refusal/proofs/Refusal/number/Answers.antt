@@ -1,4 +1,3 @@
-use borrow.Author.Rules.{rules}
 use Rattle.refusal.proofs.Refusal.number.Goals as goal
 
 pub returns-in-BadBoard : goal.returns-in-BadBoard

@@ -1,5 +1,4 @@
 use Rattle.registers.specs.Condition.{byte_of}
-use borrow.Author.Rules.{rules}
 use Rattle.registers.proofs.Condition.byte.Goals as goal
 
 pub returns : goal.returns

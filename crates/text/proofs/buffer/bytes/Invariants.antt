@@ -1,10 +1,7 @@
-use mathlib.Core.Path.{◌≡◌, refl, sym, ◌∙◌, ap}
+use mathlib.Core.Path.{◌≡◌}
 use Prim.Native.Nat.{◌≤◌, ◌-◌}
-use native.Mathlib.Omega.{arith}
-use borrow.Author.Rules.{rules}
 use lib.ListN.{length, drop}
 use Rattle.text.specs.Lines.{added}
-use Rattle.text.proofs.Adding.{next_byte, no_byte}
 use Rattle.text.proofs.buffer.bytes.Given as goal
 
 -- what is left to add to the line brings it to what is asked

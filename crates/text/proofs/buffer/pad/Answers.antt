@@ -1,9 +1,5 @@
-use mathlib.Core.Path.{◌≡◌, refl, sym, ◌∙◌, ap}
-use Prim.Native.Nat.{◌≤◌, ◌-◌}
-use native.Mathlib.Omega.{arith}
+use mathlib.Core.Path.{refl, sym, ◌∙◌}
 use borrow.Author.Rules.{rules}
-use lib.ListN.{length, replicate}
-use Rattle.text.specs.Lines.{added}
 use Rattle.text.proofs.Adding.{next_space, no_space}
 use Rattle.text.proofs.buffer.pad.Goals as goal
 

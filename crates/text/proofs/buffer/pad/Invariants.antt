@@ -1,10 +1,7 @@
-use mathlib.Core.Path.{◌≡◌, refl, sym, ◌∙◌, ap}
-use Prim.Native.Nat.{◌≤◌, ◌-◌}
-use native.Mathlib.Omega.{arith}
-use borrow.Author.Rules.{rules}
-use lib.ListN.{length, replicate}
+use mathlib.Core.Path.{◌≡◌}
+use Prim.Native.Nat.{◌-◌}
+use lib.ListN.{replicate}
 use Rattle.text.specs.Lines.{added}
-use Rattle.text.proofs.Adding.{next_space, no_space}
 use Rattle.text.proofs.buffer.pad.Given as goal
 
 abbrev pub invariant-loop-i : goal.invariant-loop-i

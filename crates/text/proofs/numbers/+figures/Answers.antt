@@ -1,9 +1,8 @@
-use Rattle.std.proofs.Common.{ℕ, ◌≡◌, ◌<◌, ◌≤◌, ◌/◌, ◌%◌, ◌+◌, ◌-◌, ◌⊎◌, List, [], ◌∷◌, ◌++◌, refl, arith}
+use Rattle.std.proofs.Common.{ℕ, ◌≡◌, ◌<◌, ◌≤◌, ◌/◌, ◌%◌, ◌+◌, ◌-◌, ◌⊎◌, [], ◌∷◌, ◌++◌, refl, arith}
 use mathlib.Core.Logic.{inl, inr}
 use Prim.Native.Nat.{zero, suc}
 use native.Mathlib.Numerals.{sub-one}
 use borrow.Author.Tests.{lt-ltb, le-ltb}
-use Rattle.text.specs.Lines.{Adds}
 use Rattle.text.specs.Numbers.{figures_of}
 use Rattle.text.proofs.Adding.{more}
 use Rattle.text.proofs.numbers.+figures.Goals as goal

@@ -1,6 +1,5 @@
 use Rattle.text.specs.Numbers.{place_digits}
 use borrow.Author.Tests.{lt-ltb, le-ltb}
-use borrow.Author.Rules.{rules}
 use Rattle.text.proofs.numbers.digits_of_place.Goals as goal
 
 pub returns-then-p-lt65536 : goal.returns-then-p-lt65536

@@ -1,4 +1,3 @@
-use borrow.Author.Rules.{rules}
 use Rattle.text.proofs.numbers.letter.Goals as goal
 
 pub returns-then-upper : goal.returns-then-upper

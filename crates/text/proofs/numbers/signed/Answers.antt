@@ -1,6 +1,5 @@
 use Rattle.text.specs.Numbers.{signed_of}
 use borrow.Author.Tests.{lt-ltb, le-ltb}
-use borrow.Author.Rules.{rules}
 use Rattle.text.proofs.numbers.signed.Goals as goal
 
 pub returns-then-d-lt32768 : goal.returns-then-d-lt32768

@@ -1,4 +1,3 @@
-use borrow.Author.Rules.{rules}
 use Rattle.timing.proofs.parts.at_spot.Goals as goal
 
 pub returns-in-AtEr : goal.returns-in-AtEr

@@ -1,6 +1,5 @@
 use mathlib.Core.Path.{refl, sym, ◌∙◌}
 use Rattle.timing.proofs.Counts.{none, read, written, move}
-use borrow.Author.Rules.{rules}
 use Rattle.timing.proofs.parts.counted.Goals as goal
 
 pub returns-in-Nop : goal.returns-in-Nop

@@ -1,6 +1,5 @@
 use native.Mathlib.Omega.{arith}
 use Rattle.timing.proofs.Counts.{long_base}
-use borrow.Author.Rules.{rules}
 use Rattle.timing.proofs.parts.move_base.Goals as goal
 
 pub returns-in-Byte : goal.returns-in-Byte

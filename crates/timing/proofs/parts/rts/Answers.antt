@@ -1,6 +1,5 @@
 use native.Mathlib.Omega.{arith}
 use Rattle.timing.specs.Made.{base_of, most_at, most_of}
-use borrow.Author.Rules.{rules}
 use Rattle.timing.proofs.parts.rts.Goals as goal
 
 pub returns : goal.returns

@@ -1,5 +1,4 @@
 use native.Mathlib.Omega.{arith}
-use borrow.Author.Rules.{rules}
 use Rattle.timing.proofs.parts.spot_base.Goals as goal
 
 pub returns-in-InPart : goal.returns-in-InPart
