@@ -3,7 +3,7 @@
 
 port.py respells what has a name in today's library. What is left is the repository's own: in specs/ and proofs/ a name that begins with a small
 letter and has a capital within it, or a dash, is written in snake case (types and modules keep theirs). The proof of a function f is f_spec.
-Names are changed as whole words, in every .antt, .rt and .edit file of crates/. An Answers.antt names goals, which Rattle makes: they stay. A name whose new form is already a word of a file that has the old
+Names are changed as whole words, in every .antt, .rt and .edit file of crates/. Answers.antt and Invariants.antt name goals, which Rattle makes: they stay. A name whose new form is already a word of a file that has the old
 one is listed ('look:'), and so are two names that would become one ('fall together:').
 """
 import collections
@@ -14,7 +14,7 @@ import sys
 
 WORD = r"[^\s(){}\[\].,;:λ→×≡↦|⟨⟩«»`\"@]+"
 HEAD = re.compile(rf"^(?:abbrev |unfoldable |pub |private |postulate )*({WORD}) :(?: |$)")
-FIELD = re.compile(rf"^\s+(?:pub )?({WORD}) :(?: |$)")
+FIELD = re.compile(rf"^\s+(?:abbrev |unfoldable |pub )*({WORD}) :(?: |$)")
 # Where snake case alone would give two things one name: a lemma that would have its definition's name ends in _lem, a definition gets another word.
 OWN = {
     "at-most": "at_most_lem",
@@ -63,7 +63,7 @@ def names_of(path):
     """The names that a file declares: at its margin, in a module, the fields of its records and the constructors of its data."""
     found, within = [], False
     for line in open(path, encoding="utf8"):
-        if re.match(r"^((pub )?(record|data)|module)\b", line):
+        if re.match(r"^((pub )?(record|data)|module)\s", line):
             within = True
             continue
         head = HEAD.match(line)
@@ -84,7 +84,7 @@ def main():
     rest = sorted(glob.glob("crates/*/src/**/*.rt", recursive=True) + glob.glob("crates/*/edits/*.edit") + glob.glob("crates/*/must-fail/*.edit"))
     turned, kept = {}, collections.Counter()
     for path in antt:
-        for name in [] if path.endswith("/Answers.antt") else names_of(path):
+        for name in [] if "/proofs/" in path and path.endswith(("/Answers.antt", "/Invariants.antt")) else names_of(path):
             if wants(name):
                 turned[name] = snake(name)
             else:

@@ -30,7 +30,7 @@ use Rattle.codes.specs.declared.Spot.TheVariants.{InPart, AtEr, AtAbs}
 use Rattle.codes.specs.declared.Instruction.{Instruction}
 use Rattle.codes.specs.declared.Instruction.TheVariants.{Takes, Gives}
 use Rattle.codes.specs.declared.Decoded.TheVariants.{Code}
-use Rattle.step.specs.Follow.{followOf}
+use Rattle.step.specs.Follow.{follow_of}
 use Rattle.step.specs.Step.{effect_of}
 use Rattle.turns.specs.MirrorTurn.{turn, ended_of, Turns, TurnsOn}
 use Rattle.turns.proofs.Laws.{done_acts, ended_taking}
@@ -41,13 +41,13 @@ use Rattle.bitturns.specs.MirrorBitturns.{address_in}
 module _ (index : Index) (d n pc : ℕ) (er : List ℕ) (f g : Condition) where
   pub take_turns : (take : Take) → Does (λ (r : Registers). took_of take index (part_of Byte r d) r) er er f g
       → Turns (Code (Takes take index (InPart d)) n) er er pc f (turn g (next_of pc n) 2 Done)
-  unfolding effect_of followOf takes_of
+  unfolding effect_of follow_of takes_of
   take_turns take h b rom ram =
       done_acts (Takes take index (InPart d)) n (next_of pc n) er pc f b rom ram refl (λ (r : Registers). took_of take index (part_of Byte r d) r) er g refl refl h
 
   pub give_turns : (give : Give) (er' : List ℕ) → Does (λ (r : Registers). with_part Byte r d (gave_of give index (part_of Byte r d) r)) er er' f g
       → Turns (Code (Gives give index (InPart d)) n) er er' pc f (turn g (next_of pc n) 2 Done)
-  unfolding effect_of followOf gives_of
+  unfolding effect_of follow_of gives_of
   give_turns give er' h b rom ram =
       done_acts (Gives give index (InPart d)) n (next_of pc n) er pc f b rom ram refl (λ (r : Registers). with_part Byte r d (gave_of give index (part_of Byte r d) r)) er' g refl refl h
 
@@ -59,7 +59,7 @@ module _ (index : Index) (s n pc : ℕ) (er : List ℕ) (f : Condition) (b : Boa
 
   took_ends : (take : Take) (t : Bool) → ltb s 256 ≡ t → effect_in er pc e ≡ takes_at take index (address_in s er) (lent er pc f) b rom ram
       → Ends (Takes take index (spot_as s)) ram (4 + x)
-  unfolding effect_of followOf takes_of address_of step_over part_of spot_as address_in base_of
+  unfolding effect_of follow_of takes_of address_of step_over part_of spot_as address_in base_of
   took_ends take true h q =
       let i = Takes take index (AtEr (s % 8)) in
       rw h
@@ -78,7 +78,7 @@ module _ (index : Index) (s n pc : ℕ) (er : List ℕ) (f : Condition) (b : Boa
 
   gave_ends : (give : Give) (ram' : List ℕ) (t : Bool) → ltb s 256 ≡ t → stepped (effect_in er pc e) ram' ≡ gives_at give index (address_in s er) (lent er pc f) b rom ram
       → Ends (Gives give index (spot_as s)) ram' (4 + x + x)
-  unfolding effect_of followOf gives_of address_of step_over part_of spot_as address_in base_of
+  unfolding effect_of follow_of gives_of address_of step_over part_of spot_as address_in base_of
   gave_ends give ram' true h q =
       let i = Gives give index (AtEr (s % 8)) in
       let p = At (s % 8) in

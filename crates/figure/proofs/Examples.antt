@@ -15,7 +15,7 @@ use Rattle.timing.specs.Made.{base_of, most_at, most_of}
 use Rattle.arith.specs.Widths.{signed_of}
 use Rattle.flow.specs.Targets.{target_of}
 use Rattle.paths.specs.Paths.{Enters}
-use Rattle.paths.specs.MirrorRows.{row_of, total_of, joined, upwardOf, reckonedOf, why_of}
+use Rattle.paths.specs.MirrorRows.{row_of, total_of, joined, upward_of, reckoned_of, why_of}
 use Rattle.paths.proofs.Rows.{PlainFrom, plain_down, plain_rows}
 use Rattle.levels.specs.Levels.{Filled}
 use Rattle.listing.specs.Listing.{branch_flow, goes_flow, found_flow, decoded_at, flow_at}
@@ -38,7 +38,7 @@ module _ (rom : List ℕ) (bytes : Bytes rom) (even : length rom % 2 ≡ 0) (sma
   above : (p : ℕ) → length rom ≤ p → Plain p
   above p h q k e l = absurd (omega arith)
 
-  down : (p : ℕ) → p % 2 ≡ 0 → p < 16777216 → ((q : ℕ) → Enters (flow_at bare rom p) q → ⊥) → reckonedOf (row_of (length rom) t) (row_of (length rom) t) 8 p (flow_at bare rom p) ≡ record { figure = get_or t p 0; low = get_or t (p + 1) 0 }
+  down : (p : ℕ) → p % 2 ≡ 0 → p < 16777216 → ((q : ℕ) → Enters (flow_at bare rom p) q → ⊥) → reckoned_of (row_of (length rom) t) (row_of (length rom) t) 8 p (flow_at bare rom p) ≡ record { figure = get_or t p 0; low = get_or t (p + 1) 0 }
       → get_or t p 0 ≤ 1000000000 → Plain (p + 2) → Plain p
   down p e h x i k r = plain_down (flow_at bare rom) (length rom) (listing bare rom bytes even small) t p (record { even = e; in_range = h }) x r i k
 
@@ -68,7 +68,7 @@ bytes10 : Bytes code10
 bytes10 = omega arith
 
 plain10 : Plain code10 bytes10 refl (lit≤ tt) table10 0
-unfolding flow_at found_flow goes_flow branch_flow decoded_at most_of base_of most_at dearest_of signed_of target_of row_of total_of joined upwardOf reckonedOf
+unfolding flow_at found_flow goes_flow branch_flow decoded_at most_of base_of most_at dearest_of signed_of target_of row_of total_of joined upward_of reckoned_of
 plain10 =
     let d = down code10 bytes10 refl (lit≤ tt) table10 in
     d 0 refl (lit< tt) (λ q e. e) refl (lit≤ tt) (d 2 refl (lit< tt) (λ q e. e) refl (lit≤ tt) (d 4 refl (lit< tt) (λ q e. e) refl (lit≤ tt) (above code10 bytes10 refl (lit≤ tt) table10 6 (lit≤ tt))))
@@ -89,7 +89,7 @@ high_entry = figured_unfit bare code10 16777216 sevens (BadEntry 16777216) refl
 
 -- a memory of one instruction that calls nothing, whose row is x and y
 one_row : (a b x y : ℕ) (rest : List ℕ) (bytes : Bytes (a ∷ b ∷ [])) → ((q : ℕ) → Enters (flow_at bare (a ∷ b ∷ []) 0) q → ⊥)
-    → reckonedOf (row_of 2 (x ∷ y ∷ rest)) (row_of 2 (x ∷ y ∷ rest)) 8 0 (flow_at bare (a ∷ b ∷ []) 0) ≡ record { figure = x; low = y } → x ≤ 1000000000
+    → reckoned_of (row_of 2 (x ∷ y ∷ rest)) (row_of 2 (x ∷ y ∷ rest)) 8 0 (flow_at bare (a ∷ b ∷ []) 0) ≡ record { figure = x; low = y } → x ≤ 1000000000
     → asked_of bare 2 (length (7 ∷ 7 ∷ rest)) 0 ≡ Fit → Figured bare (a ∷ b ∷ []) 0 (7 ∷ 7 ∷ rest) (verdict_of (flow_at bare (a ∷ b ∷ [])) 0 (record { figure = x; low = y })) (x ∷ y ∷ rest)
 one_row a b x y rest bytes calm i small fit =
     figures (a ∷ b ∷ []) bytes refl (lit≤ tt) (x ∷ y ∷ rest) (7 ∷ 7 ∷ rest) 0 refl alike
@@ -102,15 +102,15 @@ one_row a b x y rest bytes calm i small fit =
 
 -- example 11: 40FE, refusal 10 at 0
 pub example11 : Figured bare (0x40 ∷ 0xFE ∷ []) 0 (7 ∷ 7 ∷ []) (Forbids (NotUpward 0)) (0 ∷ 0 ∷ [])
-unfolding flow_at found_flow goes_flow branch_flow decoded_at most_of base_of most_at dearest_of signed_of target_of row_of total_of joined upwardOf reckonedOf asked_of could_carry figure_of verdict_of why_at why_of
+unfolding flow_at found_flow goes_flow branch_flow decoded_at most_of base_of most_at dearest_of signed_of target_of row_of total_of joined upward_of reckoned_of asked_of could_carry figure_of verdict_of why_at why_of
 example11 = one_row 0x40 0xFE 0 0 [] (omega arith) (λ q e. e) refl (lit≤ tt) refl
 
 -- example 12: 0B50 alone, refusal 2 at 2; table 0, 2, and what stands past it stays
 pub example12 : Figured bare (0x0B ∷ 0x50 ∷ []) 0 (7 ∷ 7 ∷ 9 ∷ []) (Forbids (FetchOutside 2)) (0 ∷ 2 ∷ 9 ∷ [])
-unfolding flow_at found_flow goes_flow branch_flow decoded_at most_of base_of most_at dearest_of signed_of target_of row_of total_of joined upwardOf reckonedOf asked_of could_carry figure_of verdict_of why_at why_of
+unfolding flow_at found_flow goes_flow branch_flow decoded_at most_of base_of most_at dearest_of signed_of target_of row_of total_of joined upward_of reckoned_of asked_of could_carry figure_of verdict_of why_at why_of
 example12 = one_row 0x0B 0x50 0 2 (9 ∷ []) (omega arith) (λ q e. e) refl (lit≤ tt) refl
 
 -- 4080: a branch back below 0 goes to a place above it, outside: refusal 2 there, and not 10
 pub wrapped : Figured bare (0x40 ∷ 0x80 ∷ []) 0 (7 ∷ 7 ∷ []) (Forbids (FetchOutside 16777090)) (0 ∷ 16777090 ∷ [])
-unfolding flow_at found_flow goes_flow branch_flow decoded_at most_of base_of most_at dearest_of signed_of target_of row_of total_of joined upwardOf reckonedOf asked_of could_carry figure_of verdict_of why_at why_of
+unfolding flow_at found_flow goes_flow branch_flow decoded_at most_of base_of most_at dearest_of signed_of target_of row_of total_of joined upward_of reckoned_of asked_of could_carry figure_of verdict_of why_at why_of
 wrapped = one_row 0x40 0x80 0 16777090 [] (omega arith) (λ q e. e) refl (lit≤ tt) refl

@@ -41,7 +41,7 @@ use Rattle.memory.specs.declared.Got.{Got}
 use Rattle.memory.specs.declared.Got.TheVariants.{Value, NotRead}
 use Rattle.moves.specs.Made.{states_at}
 use Rattle.moves.proofs.States.{never_more, printed}
-use Rattle.step.specs.Follow.{even_condition, holds_of, aim_of, followOf}
+use Rattle.step.specs.Follow.{even_condition, holds_of, aim_of, follow_of}
 use Rattle.step.specs.Step.{After, after, answered, stays, good_pc, fetch_of, step_of}
 use Rattle.step.proofs.Laws as Laws
 use Rattle.step.proofs.Laws.{Comes, outside, no_code, completes, comes, step_is}
@@ -124,8 +124,8 @@ module _ (k : Site) (b : Board) (on : Carrying k b) (rom : List ℕ) (bytes : By
       next_even = omega (arith, z.even, (code_read pc (drop pc rom) i n (bytes_drop pc rom bytes) d).sized.even)
 
       leads : (g : Goes) → ((f : Refusal) → goes_flow pc (next_of pc n) (most_of k i) g ≡ Stop f → ⊥) → (Calling g → ⊥) → (g ≡ Returns → ⊥) → (p : ℕ)
-          → followOf r b rom s.mem g (next_of pc n) ≡ Value p → Leads (goes_flow pc (next_of pc n) (most_of k i) g) (p % 2 ^ 24 / 2 * 2)
-      unfolding goes_flow followOf jump_flow aim_of
+          → follow_of r b rom s.mem g (next_of pc n) ≡ Value p → Leads (goes_flow pc (next_of pc n) (most_of k i) g) (p % 2 ^ 24 / 2 * 2)
+      unfolding goes_flow follow_of jump_flow aim_of
       leads Onward free calm out p e = let h : p ≡ next_of pc n = cc in rw h (place_stays (next_of pc n) next_even (omega arith))
       leads (Branches c reach) free calm out p e =
           let h : p ≡ cond (holds_of c r.condition) (target_of (next_of pc n) reach) (next_of pc n) = cc in
@@ -140,8 +140,8 @@ module _ (k : Site) (b : Board) (on : Carrying k b) (rom : List ℕ) (bytes : By
 
       -- a call that is followed enters its target, and leads where it pushes
       enters : (g : Goes) → ((f : Refusal) → goes_flow pc (next_of pc n) (most_of k i) g ≡ Stop f → ⊥) → Calling g → (p : ℕ)
-          → followOf r b rom s.mem g (next_of pc n) ≡ Value p → Enters (goes_flow pc (next_of pc n) (most_of k i) g) (p % 2 ^ 24 / 2 * 2) × Leads (goes_flow pc (next_of pc n) (most_of k i) g) (next_of pc n)
-      unfolding goes_flow followOf call_flow aim_of
+          → follow_of r b rom s.mem g (next_of pc n) ≡ Value p → Enters (goes_flow pc (next_of pc n) (most_of k i) g) (p % 2 ^ 24 / 2 * 2) × Leads (goes_flow pc (next_of pc n) (most_of k i) g) (next_of pc n)
+      unfolding goes_flow follow_of call_flow aim_of
       enters Onward free calls p e = absurd calls
       enters (Branches c reach) free calls p e = absurd calls
       enters (Jumps t) free calls p e = absurd calls
@@ -199,13 +199,13 @@ module _ (k : Site) (b : Board) (on : Carrying k b) (rom : List ℕ) (bytes : By
         free_at : (g : Goes) → goes_of i ≡ g → (f : Refusal) → goes_flow pc (next_of pc n) (most_of k i) g ≡ Stop f → ⊥
         free_at g h f x = free f (here g h ∙ x)
 
-        goes_on : (g : Goes) → goes_of i ≡ g → (Calling g → ⊥) → (g ≡ Returns → ⊥) → followOf r b rom s.mem g (next_of pc n) ≡ Value p → Stepped (processor b rom) Kept (flow_at k rom pc) s
+        goes_on : (g : Goes) → goes_of i ≡ g → (Calling g → ⊥) → (g ≡ Returns → ⊥) → follow_of r b rom s.mem g (next_of pc n) ≡ Value p → Stepped (processor b rom) Kept (flow_at k rom pc) s
         goes_on g h calm out e =
             rw (here g h)
             (onward {t = record { regs = with_pc q p; mem = m }} (returns_not (λ x. out (sym h ∙ x))) (pushes_not (λ x. calm (rw h at x))) step after_kept (plain g calm) (leads g (free_at g h) calm out p e) (takes b.site r i)
             (omega (arith, within k b on r i, counts g (free_at g h))))
 
-        called : (g : Goes) → goes_of i ≡ g → Calling g → (g ≡ Returns → ⊥) → followOf r b rom s.mem g (next_of pc n) ≡ Value p → Stepped (processor b rom) Kept (flow_at k rom pc) s
+        called : (g : Goes) → goes_of i ≡ g → Calling g → (g ≡ Returns → ⊥) → follow_of r b rom s.mem g (next_of pc n) ≡ Value p → Stepped (processor b rom) Kept (flow_at k rom pc) s
         unfolding decoded_at
         called g h calls out e =
             let w = enters g (free_at g h) calls p e in
@@ -213,7 +213,7 @@ module _ (k : Site) (b : Board) (on : Carrying k b) (rom : List ℕ) (bytes : By
             (entered {t = record { regs = with_pc q p; mem = m }} {k = next_of pc n} (returns_not (λ x. out (sym h ∙ x))) (i, n, d, rw h calls, refl) step after_kept w.1 w.0 (takes b.site r i)
             (omega (arith, within k b on r i, counts g (free_at g h))))
 
-        completed : (g : Goes) → goes_of i ≡ g → followOf r b rom s.mem g (next_of pc n) ≡ Value p → Stepped (processor b rom) Kept (flow_at k rom pc) s
+        completed : (g : Goes) → goes_of i ≡ g → follow_of r b rom s.mem g (next_of pc n) ≡ Value p → Stepped (processor b rom) Kept (flow_at k rom pc) s
         unfolding goes_flow decoded_at
         completed Onward h e = goes_on Onward h (λ x. x) (λ x. let z : ◌≡◌ {A = ℕ} 0 1 = cc in omega arith) e
         completed (Branches c reach) h e = goes_on (Branches c reach) h (λ x. x) (λ x. let z : ◌≡◌ {A = ℕ} 0 1 = cc in omega arith) e

@@ -18,7 +18,7 @@ use Rattle.layout.specs.Rows.{row_of, seven, numbers_of}
 use Rattle.layout.specs.MirrorRows.{named_of}
 use Rattle.layout.specs.MirrorLent.{row_in}
 use Rattle.layout.proofs.Named.{named_valid, named_is, named_none, first_seven, seven_one}
-use Rattle.host.specs.Answers.{Noted, noted, refusedWith, tell}
+use Rattle.host.specs.Answers.{Noted, noted, refused_with, tell}
 use Rattle.host.specs.Codes.{Decoding, decoding, decode_left, DecodeCall, fields_short, decoded, Encoding, encoding, with_out, Spells, encode_told, EncodeCall, unspelt, encoded}
 use Rattle.host.specs.MirrorCodes.{put_of, named_in, EncodesNamed, named, unnamed, tell_of}
 use Rattle.host.proofs.Told.{fill}
@@ -33,7 +33,7 @@ put_is fields answer (cut_short i v b) = refl
 put_is fields answer (unheld u) = refl
 
 module _ {s fields answer new : List ℕ} {n : ℕ} (h : 3 ≤ length answer) where
-  pub decode_short : length fields < 9 → noted n new ≡ tell (refusedWith (LentTooShort 9) []) answer → DecodeCall s fields answer (decoding n fields new)
+  pub decode_short : length fields < 9 → noted n new ≡ tell (refused_with (LentTooShort 9) []) answer → DecodeCall s fields answer (decoding n fields new)
   unfolding decode_left
   decode_short k e = subst (λ (x : Decoding). DecodeCall s fields answer x) (sym (fill e refl)) (fields_short h k)
 

@@ -21,20 +21,20 @@ unfolding tell
 stored_told xs l h e = ap (noted (get_or xs 0 0)) (e ∙ stored xs l h)
 
 module _ {n : ℕ} {a : List ℕ} {t : Noted} (e : noted n a ≡ t) where
-  abbrev e-returned : n ≡ t.returned
-  e-returned = ap (λ (m : Noted). m.returned) e
+  abbrev e_returned : n ≡ t.returned
+  e_returned = ap (λ (m : Noted). m.returned) e
 
-  abbrev e-answer : a ≡ t.answer
-  e-answer = ap (λ (m : Noted). m.answer) e
+  abbrev e_answer : a ≡ t.answer
+  e_answer = ap (λ (m : Noted). m.answer) e
 
   pub fill : {x y : List ℕ} → x ≡ y → decoding n x a ≡ with_fields y t
-  fill p = cc (p, e-returned, e-answer)
+  fill p = cc (p, e_returned, e_answer)
 
   pub keep : {x y : List ℕ} → x ≡ y → kept n x a ≡ keeping y t
-  keep p = cc (p, e-returned, e-answer)
+  keep p = cc (p, e_returned, e_answer)
 
   pub leave : {x y r s : List ℕ} → x ≡ y → r ≡ s → left n x r a ≡ leaving y s t
-  leave p q = cc (p, q, e-returned, e-answer)
+  leave p q = cc (p, q, e_returned, e_answer)
 
 pub beside : {n : ℕ} {a x y : List ℕ} {t : Noted} (m : List ℕ) → kept n x a ≡ keeping y t → left n m x a ≡ leaving m y t
 beside m e = cc (ap (λ (k : Kept). k.returned) e, ap (λ (k : Kept). k.regs) e, ap (λ (k : Kept). k.answer) e)
@@ -42,5 +42,5 @@ beside m e = cc (ap (λ (k : Kept). k.returned) e, ap (λ (k : Kept). k.regs) e,
 pub figure_call : {k : Site} {board rom table after answer new : List ℕ} {entry n : ℕ} {v : Verdict} → k ≡ site_of board → 4 ≤ length answer
     → Figured k rom entry table v after → noted n new ≡ figure_told v answer → FigureCall board rom entry table answer (figuring n after new)
 figure_call {k} {board} {rom} {table} {after} {answer} {new} {entry} {n} {v} s h f e =
-    let q : figuring n after new ≡ with_table after (figure_told v answer) = cc (e-returned e, e-answer e) in
+    let q : figuring n after new ≡ with_table after (figure_told v answer) = cc (e_returned e, e_answer e) in
     subst (λ (x : Figuring). FigureCall board rom entry table answer x) (sym q) (figured h (subst (λ (x : Site). Figured x rom entry table v after) s f))

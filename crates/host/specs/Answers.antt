@@ -16,8 +16,8 @@ noted n a = record { returned = n; answer = a }
 abbrev pub completed : List ℕ → List ℕ
 completed more = 0 ∷ 0 ∷ 0 ∷ more
 
-abbrev pub refusedWith : Refusal → List ℕ → List ℕ
-refusedWith f more = number_of f ∷ place_of f ∷ group_of f ∷ more
+abbrev pub refused_with : Refusal → List ℕ → List ℕ
+refused_with f more = number_of f ∷ place_of f ∷ group_of f ∷ more
 
 -- the first number is returned, too; numbers past those of the answer stay as they were
 unfoldable pub tell : List ℕ → List ℕ → Noted
@@ -25,4 +25,4 @@ tell xs answer = noted (get_or xs 0 0) (overwrite xs answer)
 
 -- a refusal: [number, place, group, 0]
 unfoldable pub refuse : Refusal → List ℕ → Noted
-refuse f answer = tell (refusedWith f (0 ∷ [])) answer
+refuse f answer = tell (refused_with f (0 ∷ [])) answer

@@ -5,7 +5,7 @@ use Rattle.codes.specs.Exact.{Decodes, Encodes}
 use Rattle.layout.specs.Names.{Instruction, Decoded, Code, NoCode, Encoded, Written, NotWritten, NotInstruction, LentTooShort}
 use Rattle.layout.specs.Rows.{row_of, seven, numbers_of}
 use Rattle.layout.specs.Lent.{overwrite}
-use Rattle.host.specs.Answers.{Noted, completed, refusedWith, tell, refuse}
+use Rattle.host.specs.Answers.{Noted, completed, refused_with, tell, refuse}
 
 -- ---- h8_decode
 
@@ -24,7 +24,7 @@ with_fields fields n = decoding n.returned fields n.answer
 -- [0, 0, 0] with the instruction's nine numbers, or a refusal: [number, place, group]
 unfoldable pub decode_left : List ℕ → List ℕ → Decoded → Decoding
 decode_left fields answer (Code i n) = with_fields (overwrite (numbers_of i) fields) (tell (completed []) answer)
-decode_left fields answer (NoCode f) = with_fields fields (tell (refusedWith f []) answer)
+decode_left fields answer (NoCode f) = with_fields fields (tell (refused_with f []) answer)
 
 -- 13 for the answer; 13 for the fields; else what the bytes hold by the code list (`Decodes`): 0, 4, 15 or 3
 pub data DecodeCall (bytes fields answer : List ℕ) : Decoding → Type 0 where

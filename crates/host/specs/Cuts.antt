@@ -4,7 +4,7 @@ use Rattle.std.specs.Prelude.{ℕ, cond, List, [], ◌∷◌, ltb, length, get_o
 use Rattle.refusal.specs.declared.Refusal.{Refusal}
 use Rattle.refusal.specs.declared.Refusal.TheVariants.{BadBoard, LentTooShort}
 use Rattle.replay.specs.Replay.{moment, standing, begun, ended_of}
-use Rattle.replay.specs.Cuts.{Arrived, said_of, deliverOf}
+use Rattle.replay.specs.Cuts.{Arrived, said_of, deliver_of}
 use Rattle.replay.specs.declared.Report.TheVariants.{Halted}
 use Rattle.replay.specs.declared.Stage.TheVariants.{Told}
 use Rattle.replay.specs.declared.Standing.{Standing}
@@ -72,7 +72,7 @@ unfoldable pub take_call : List ℕ → List ℕ → List ℕ → List ℕ → L
 take_call board rom ram replay bytes answer =
     cond (ltb (length answer) 7) (left 13 ram replay answer)
     (cond (ltb (length replay) replay_length) (beside ram (too_short replay_length replay answer))
-    (take_left (deliverOf (board_of board) rom (moment (standing_of replay) ram) bytes) replay answer))
+    (take_left (deliver_of (board_of board) rom (moment (standing_of replay) ram) bytes) replay answer))
 
 -- ---- h8_replay_end
 

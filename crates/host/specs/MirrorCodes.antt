@@ -9,12 +9,12 @@ use Rattle.layout.specs.Rows.{row_of, nine}
 use Rattle.layout.specs.MirrorRows.{named_of}
 use Rattle.layout.specs.MirrorLent.{row_in}
 use Rattle.layout.specs.Lent.{overwrite}
-use Rattle.host.specs.Answers.{Noted, completed, refusedWith, tell, refuse}
+use Rattle.host.specs.Answers.{Noted, completed, refused_with, tell, refuse}
 use Rattle.host.specs.Codes.{Decoding, with_fields}
 
 unfoldable pub put_of : List ℕ → List ℕ → Decoded → Decoding
 put_of fields answer (Code i n) = with_fields (overwrite (nine (row_of i) (n % 0x100000000) (states_of i)) fields) (tell (completed []) answer)
-put_of fields answer (NoCode f) = with_fields fields (tell (refusedWith f []) answer)
+put_of fields answer (NoCode f) = with_fields fields (tell (refused_with f []) answer)
 
 unfoldable pub named_in : List ℕ → Named
 named_in fields = cond (ltb (length fields) 9) NamesNone (named_of (row_in fields))

@@ -8,14 +8,14 @@ use Rattle.replay.specs.declared.Report.TheVariants.{Agreed, Differs, Halted}
 use Rattle.layout.specs.Lent.{overwrite}
 use Rattle.layout.specs.Board.{board_of}
 use Rattle.layout.specs.Registers.{registers_length, registers_of, ten_of}
-use Rattle.host.specs.Answers.{completed, refusedWith, tell}
+use Rattle.host.specs.Answers.{completed, refused_with, tell}
 use Rattle.host.specs.Steps.{Left, left, leaving}
 
 -- [number, place, group, records agreed, states, report, field]; enum h8_report, enum h8_differs
 unfoldable pub replay_answer : Report → ℕ → ℕ → List ℕ
 replay_answer Agreed steps states = completed (steps ∷ states ∷ 0 ∷ 0 ∷ [])
 replay_answer (Differs f) steps states = completed (steps ∷ states ∷ 1 ∷ field_number f ∷ [])
-replay_answer (Halted f) steps states = refusedWith f (steps ∷ states ∷ 2 ∷ 0 ∷ [])
+replay_answer (Halted f) steps states = refused_with f (steps ∷ states ∷ 2 ∷ 0 ∷ [])
 
 -- working memory and registers are as the replayed steps leave them, whatever the report
 unfoldable pub replay_left : Replayed → List ℕ → List ℕ → Left

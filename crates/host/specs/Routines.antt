@@ -9,7 +9,7 @@ use Rattle.routine.specs.declared.RoutineAnswer.{RoutineAnswer}
 use Rattle.layout.specs.Lent.{overwrite, eight_of}
 use Rattle.layout.specs.Board.{board_of}
 use Rattle.layout.specs.Registers.{registers_length, registers_of, ten_of}
-use Rattle.host.specs.Answers.{Noted, completed, refusedWith, tell}
+use Rattle.host.specs.Answers.{Noted, completed, refused_with, tell}
 use Rattle.host.specs.Steps.{Left, left, leaving}
 
 -- the steps, their states, the ending, how many addresses are kept, and these, in the order pushed
@@ -20,7 +20,7 @@ kept_numbers q ending = q.steps ∷ q.states ∷ ending ∷ q.count ∷ eight_of
 unfoldable pub routine_told : Ending → RoutineAnswer → List ℕ
 routine_told AtStop q = completed (kept_numbers q 0)
 routine_told Spent q = completed (kept_numbers q 1)
-routine_told (Halted f) q = refusedWith f (kept_numbers q 2)
+routine_told (Halted f) q = refused_with f (kept_numbers q 2)
 routine_told Returned q = completed (kept_numbers q 3)
 routine_told Ninth q = completed (kept_numbers q 4)
 routine_told Elsewhere q = completed (kept_numbers q 5)
@@ -32,7 +32,7 @@ routine_left a regs answer =
 
 -- before a step: nothing is done, and nothing is kept
 unfoldable pub unrun : Refusal → List ℕ → Noted
-unrun f answer = tell (refusedWith f (0 ∷ 0 ∷ 2 ∷ 0 ∷ 0 ∷ 0 ∷ 0 ∷ 0 ∷ 0 ∷ 0 ∷ 0 ∷ 0 ∷ [])) answer
+unrun f answer = tell (refused_with f (0 ∷ 0 ∷ 2 ∷ 0 ∷ 0 ∷ 0 ∷ 0 ∷ 0 ∷ 0 ∷ 0 ∷ 0 ∷ 0 ∷ [])) answer
 
 -- 13 for the answer; 13 for the registers; 12; 1 for a condition number over 255; then the run
 unfoldable pub routine_call : List ℕ → List ℕ → List ℕ → List ℕ → ℕ → ℕ → List ℕ → Left

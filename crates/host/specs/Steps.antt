@@ -18,7 +18,7 @@ use Rattle.run.specs.declared.Ending.TheVariants.{AtStop, Spent, Halted}
 use Rattle.layout.specs.Lent.{overwrite}
 use Rattle.layout.specs.Board.{board_of}
 use Rattle.layout.specs.Registers.{registers_length, registers_of, ten_of}
-use Rattle.host.specs.Answers.{Noted, completed, refusedWith, tell}
+use Rattle.host.specs.Answers.{Noted, completed, refused_with, tell}
 
 -- what is returned, and working memory, the registers' numbers and the answer afterwards
 pub record Left : Type 0 where
@@ -52,7 +52,7 @@ touched xs = length xs ∷ entries 4 xs
 -- [number, place, group, states, count, four accesses]
 unfoldable pub step_answer : Outcome → ℕ → List Access → List ℕ
 step_answer Done states xs = completed (states ∷ touched xs)
-step_answer (Refused f) states xs = refusedWith f (0 ∷ touched [])
+step_answer (Refused f) states xs = refused_with f (0 ∷ touched [])
 
 -- a step that is done leaves working memory and registers as it says; a refused one leaves both as they were
 unfoldable pub step_left : Outcome → After → List Access → List ℕ → List ℕ → List ℕ → Left
@@ -98,7 +98,7 @@ StepSpares board ram ram' answer = Spares (board_of board) ram ram' (touched_in 
 unfoldable pub run_answer : Ending → ℕ → ℕ → List ℕ
 run_answer AtStop steps states = completed (steps ∷ states ∷ 0 ∷ [])
 run_answer Spent steps states = completed (steps ∷ states ∷ 1 ∷ [])
-run_answer (Halted f) steps states = refusedWith f (steps ∷ states ∷ 2 ∷ [])
+run_answer (Halted f) steps states = refused_with f (steps ∷ states ∷ 2 ∷ [])
 
 -- working memory and registers are as the completed steps leave them, whatever the ending
 unfoldable pub run_left : Ran → List ℕ → List ℕ → Left

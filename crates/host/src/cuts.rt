@@ -7,7 +7,7 @@ ghost use Rattle.host.specs.Cuts.{carrying, said_answer, carried_on, start_of, b
 ghost use Rattle.layout.specs.Board.{board_of};
 ghost use Rattle.carried.specs.Carried.{replay_length, standing_of};
 ghost use Rattle.replay.specs.Replay.{moment, ended_of};
-ghost use Rattle.replay.specs.Cuts.{said_of, deliverOf};
+ghost use Rattle.replay.specs.Cuts.{said_of, deliver_of};
 
 use crate::{answers, replays};
 use layout::lent;
@@ -110,7 +110,7 @@ fn take_lent(
     answer: &mut [u64],
 ) -> u32
     requires { (replay_length ≤ length replay.old) × (7 ≤ length answer.old) }
-    ensures { left result ram.new replay.new answer.new ≡ take_left (deliverOf (board_of board.now) rom.now (moment (standing_of replay.old) ram.old) bytes.now) replay.old answer.old }
+    ensures { left result ram.new replay.new answer.new ≡ take_left (deliver_of (board_of board.now) rom.now (moment (standing_of replay.old) ram.old) bytes.now) replay.old answer.old }
 {
     let b = lent::board_in(board);
     let k = carried::replay_in(&replay[..]);

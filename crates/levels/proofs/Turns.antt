@@ -13,7 +13,7 @@ use Rattle.paths.specs.Paths.{IsPlace}
 use Rattle.paths.specs.Levels.{HeldIs, LevelFrom}
 use Rattle.paths.specs.declared.Notes.{Notes}
 use Rattle.paths.specs.MirrorRows.{unpacked_of}
-use Rattle.paths.specs.MirrorPacked.{packed_at, packedFlow, notes_of, noted_of, plain_of}
+use Rattle.paths.specs.MirrorPacked.{packed_at, packed_flow, notes_of, noted_of, plain_of}
 use Rattle.paths.proofs.Laws.{le_or, Listing}
 use Rattle.paths.proofs.Packed.{lower, noted_flow, packed_small, packed_held}
 use Rattle.paths.proofs.Table.{kept_below, kept_rows, kept_rest, stored, stored_at, stored_above}
@@ -68,7 +68,7 @@ module _ (flow : ℕ → Flow) (len : ℕ) where
 
   -- the row of p, in the lower half of its number
   module _ (L : Listing flow len) (d p x : ℕ) (even : p % 2 ≡ 0) (inside : p + 2 ≤ len) {i : ℕ} {before mid : List ℕ} (room : len ≤ length before) (above : i ≤ p + 2) (r : Reached flow len d i before mid)
-      (is : x ≡ packedFlow (packed_at len mid d) (packed_at len mid (d - 1)) d p (noted_of (get_or mid p 0 / 4294967296) (get_or mid (p + 1) 0 / 4294967296))) where
+      (is : x ≡ packed_flow (packed_at len mid d) (packed_at len mid (d - 1)) d p (noted_of (get_or mid p 0 / 4294967296) (get_or mid (p + 1) 0 / 4294967296))) where
     place : IsPlace p
     place = record { even = even; in_range = omega (arith, L.small) }
 

@@ -14,14 +14,14 @@ use Rattle.timing.specs.Made.{made_at, base_of}
 use Rattle.moves.specs.Made.{states_at}
 use Rattle.moves.specs.Moves.{address_of, step_over, loaded_of, load_of, stored_of, store_of}
 use Rattle.flow.specs.Targets.{target_of}
-use Rattle.step.specs.Follow.{even_condition, holds_of, followOf}
-use Rattle.step.specs.Step.{transferOf, effect_of, finish_of, carry_of, obey_of, act_of, fetch_of, step_of}
+use Rattle.step.specs.Follow.{even_condition, holds_of, follow_of}
+use Rattle.step.specs.Step.{transfer_of, effect_of, finish_of, carry_of, obey_of, act_of, fetch_of, step_of}
 use Rattle.run.specs.Run.{run_from, run_of}
 use Rattle.figure.proofs.Examples.{example10, example10_2, example11, example12}
 use Rattle.marked.specs.Rows.{All, rows}
 
 pub marked : All rows
-unfolding xor signed_of fits_in moved_of add_of sub_of find_row adjust_of part_of insert_of with_part good_board inside read_part read_of written write_word write_of cost_of accesses_at made_at base_of states_at source_of operated_of alu_of carried_of row_of added_of adjusted_of decimal_of address_of step_over loaded_of load_of stored_of store_of target_of even_condition holds_of followOf transferOf effect_of finish_of carry_of obey_of act_of fetch_of step_of run_from run_of
+unfolding xor signed_of fits_in moved_of add_of sub_of find_row adjust_of part_of insert_of with_part good_board inside read_part read_of written write_word write_of cost_of accesses_at made_at base_of states_at source_of operated_of alu_of carried_of row_of added_of adjusted_of decimal_of address_of step_over loaded_of load_of stored_of store_of target_of even_condition holds_of follow_of transfer_of effect_of finish_of carry_of obey_of act_of fetch_of step_of run_from run_of
 marked = (
   refl,
   (

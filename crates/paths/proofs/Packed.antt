@@ -6,8 +6,8 @@ use Rattle.paths.specs.declared.Flow.{Flow}
 use Rattle.paths.specs.declared.Flow.TheVariants.{Next, Jump, Either, Call, Ends, Stop}
 use Rattle.paths.specs.Paths.{IsPlace, Leads, Enters, count_of}
 use Rattle.paths.specs.Levels.{HeldIs, LevelFrom}
-use Rattle.paths.specs.MirrorRows.{barred, unpacked_of, level_of, total_of, joined, called_of, upwardOf, entered_of, reckonedOf}
-use Rattle.paths.specs.MirrorPacked.{packed_bar, packed_at, packed_total, packed_join, packed_call, packedUp, packedIn, packedFlow, notes_for, notes_of, kind_of, noted_of, plain_of}
+use Rattle.paths.specs.MirrorRows.{barred, unpacked_of, level_of, total_of, joined, called_of, upward_of, entered_of, reckoned_of}
+use Rattle.paths.specs.MirrorPacked.{packed_bar, packed_at, packed_total, packed_join, packed_call, packed_up, packed_in, packed_flow, notes_for, notes_of, kind_of, noted_of, plain_of}
 use Rattle.paths.proofs.Laws.{le_or, Listing}
 use Rattle.paths.proofs.Rows.{row_reckoned}
 
@@ -78,8 +78,8 @@ module _ (s : ℕ) {a b : Reckoned} {x y : ℕ} (A : Packs a x) (B : Packs b y) 
 -- of the place p, from a table, with d levels left
 module _ (len : ℕ) (table : List ℕ) (d p : ℕ) (inside : p < 16777215) where
   packs_up : (n t s : ℕ) → n < 16777215 → t < 16777215
-      → Packs (upwardOf (level_of len table d) (level_of len table (d - 1)) p n t s) (packedUp (packed_at len table d) (packed_at len table (d - 1)) p n t s)
-  unfolding upwardOf packedUp
+      → Packs (upward_of (level_of len table d) (level_of len table (d - 1)) p n t s) (packed_up (packed_at len table d) (packed_at len table (d - 1)) p n t s)
+  unfolding upward_of packed_up
   packs_up n t s h k = go (leb n p || leb t p)
     where
       go : (v : Bool) → Packs (cond v (barred p) (joined s (level_of len table d n) (level_of len table d t))) (cond v (packed_bar p) (packed_join s (packed_at len table d n) (packed_at len table d t)))
@@ -87,8 +87,8 @@ module _ (len : ℕ) (table : List ℕ) (d p : ℕ) (inside : p < 16777215) wher
       go false = packs_join s (packs_at len table d n h) (packs_at len table d t k)
 
   packs_in : (n t s : ℕ) → n < 16777215 → t < 16777215
-      → Packs (entered_of (level_of len table d) (level_of len table (d - 1)) d p n t s) (packedIn (packed_at len table d) (packed_at len table (d - 1)) d p n t s)
-  unfolding entered_of packedIn
+      → Packs (entered_of (level_of len table d) (level_of len table (d - 1)) d p n t s) (packed_in (packed_at len table d) (packed_at len table (d - 1)) d p n t s)
+  unfolding entered_of packed_in
   packs_in n t s h k = go (eqb d 0)
     where
       go : (v : Bool) → Packs (cond v (barred p) (called_of s (level_of len table (d - 1) t) (level_of len table d n))) (cond v (packed_bar p) (packed_call s (packed_at len table (d - 1) t) (packed_at len table d n)))
@@ -96,8 +96,8 @@ module _ (len : ℕ) (table : List ℕ) (d p : ℕ) (inside : p < 16777215) wher
       go false = packs_call s (packs_at len table (d - 1) t k) (packs_at len table d n h)
 
   packs_flow : (f : Flow) → ((q : ℕ) → Leads f q → q < 16777215) → ((t : ℕ) → Enters f t → t < 16777215)
-      → Packs (reckonedOf (level_of len table d) (level_of len table (d - 1)) d p f) (packedFlow (packed_at len table d) (packed_at len table (d - 1)) d p f)
-  unfolding reckonedOf packedFlow
+      → Packs (reckoned_of (level_of len table d) (level_of len table (d - 1)) d p f) (packed_flow (packed_at len table d) (packed_at len table (d - 1)) d p f)
+  unfolding reckoned_of packed_flow
   packs_flow (Next n s) w u = packs_up n n s (w n refl) (w n refl)
   packs_flow (Jump t s) w u = packs_up t t s (w t refl) (w t refl)
   packs_flow (Either n t s) w u = packs_up n t s (w n (inl refl)) (w t (inr refl))
@@ -106,8 +106,8 @@ module _ (len : ℕ) (table : List ℕ) (d p : ℕ) (inside : p < 16777215) wher
   packs_flow (Stop r) w u = packs_bar p inside
 
 -- what is noted
-plain_flow : (same less : ℕ → ℕ) (d p : ℕ) (f : Flow) → packedFlow same less d p (plain_of f) ≡ packedFlow same less d p f
-unfolding packedFlow plain_of
+plain_flow : (same less : ℕ → ℕ) (d p : ℕ) (f : Flow) → packed_flow same less d p (plain_of f) ≡ packed_flow same less d p f
+unfolding packed_flow plain_of
 plain_flow same less d p (Next n s) = refl
 plain_flow same less d p (Jump t s) = refl
 plain_flow same less d p (Either n t s) = refl
@@ -149,8 +149,8 @@ module _ (flow : ℕ → Flow) (len : ℕ) (L : Listing flow len) (p : ℕ) (z :
   noted_flow = noted_is (flow p) (λ q w. (L.ways p q z w).in_range) (λ t u. (L.entries p t z u).in_range) (omega (arith, L.few p z))
 
   -- the packed row of p from what is noted there, the rows of the places above it, and of all with a level less
-  module _ (table : List ℕ) (d to on x : ℕ) (noted : noted_of to on ≡ plain_of (flow p)) (is : x ≡ packedFlow (packed_at len table d) (packed_at len table (d - 1)) d p (noted_of to on)) where
-    packs_row : Packs (reckonedOf (level_of len table d) (level_of len table (d - 1)) d p (flow p)) x
+  module _ (table : List ℕ) (d to on x : ℕ) (noted : noted_of to on ≡ plain_of (flow p)) (is : x ≡ packed_flow (packed_at len table d) (packed_at len table (d - 1)) d p (noted_of to on)) where
+    packs_row : Packs (reckoned_of (level_of len table d) (level_of len table (d - 1)) d p (flow p)) x
     packs_row =
         rw (is, noted, plain_flow (packed_at len table d) (packed_at len table (d - 1)) d p (flow p))
         (packs_flow len table d p (place_in z) (flow p) (λ q w. place_in (L.ways p q z w)) (λ t u. place_in (L.entries p t z u)))

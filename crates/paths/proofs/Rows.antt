@@ -9,7 +9,7 @@ use Rattle.paths.specs.declared.Flow.{Flow}
 use Rattle.paths.specs.declared.Flow.TheVariants.{Next, Jump, Either, Call, Ends, Stop}
 use Rattle.paths.specs.Paths.{IsPlace, Leads, Enters, count_of, Forbidden, stop, back, deep, Open, IsFigure, Over, Row, figure, over, refused, RowsFrom}
 use Rattle.paths.specs.Levels.{Held, totals, bars, HeldIs, LevelFrom}
-use Rattle.paths.specs.MirrorRows.{row_of, level_of, shown_of, total_of, joined, called_of, upwardOf, entered_of, reckonedOf, why_of, turned_of, own_of}
+use Rattle.paths.specs.MirrorRows.{row_of, level_of, shown_of, total_of, joined, called_of, upward_of, entered_of, reckoned_of, why_of, turned_of, own_of}
 use Rattle.paths.proofs.Laws.{le_or, Both, both_next, both_jump, both_either, Listing, up, no_way_stop, no_call_stop, held_stop, held_ends, held_join, held_call, held_small, held_cast, held_low, held_outside, row_outside, meets_in}
 
 -- a place is allowed if its ways go up, and a call is with a level left
@@ -97,8 +97,8 @@ module _ (flow : ℕ → Flow) (len : ℕ) (L : Listing flow len) where
         let e : (count_of (flow p) + max (same n).figure (same t).figure) % 2 ^ 64 ≡ count_of (flow p) + max (same n).figure (same t).figure = omega (arith, held_small flow a, held_small flow b, L.few p z) in
         rw e (held_join flow n t T (open_both flow n t T h k) (λ g m. meets_in flow len L z m) a b)
 
-    row_upward : (n t : ℕ) → Both (flow p) n t → HeldIs flow d p (upwardOf same less p n t (count_of (flow p)))
-    unfolding upwardOf
+    row_upward : (n t : ℕ) → Both (flow p) n t → HeldIs flow d p (upward_of same less p n t (count_of (flow p)))
+    unfolding upward_of
     row_upward n t T = ⊎_elim (λ h. simp (le-leb n p h) (held_stop flow (back T.first h))) (λ h. ⊎_elim (λ k. simp (lt-leb n p h, le-leb t p k) (held_stop flow (back T.second k))) (λ k. simp (lt-leb n p h, lt-leb t p k) (row_above n t T h k)) (le_or t p)) (le_or n p)
 
     row_call : (x n t s : ℕ) → d ≡ x → flow p ≡ Call n t s → HeldIs flow d p (entered_of same less d p n t (count_of (flow p)))
@@ -113,8 +113,8 @@ module _ (flow : ℕ → Flow) (len : ℕ) (L : Listing flow len) where
         let e₂ : (count_of (flow p) + ((less t).figure + (same n).figure)) % 2 ^ 64 ≡ count_of (flow p) + ((less t).figure + (same n).figure) = omega (arith, held_small flow a, held_small flow b, L.few p z) in
         rw h (simp (ne_eqb (suc x) 0 (omega arith), e₁, e₂) (held_call flow i (open_call z i) (λ g m. meets_in flow len L z m) a b))
 
-    row_flow : (f : Flow) → flow p ≡ f → HeldIs flow d p (reckonedOf same less d p f)
-    unfolding reckonedOf
+    row_flow : (f : Flow) → flow p ≡ f → HeldIs flow d p (reckoned_of same less d p f)
+    unfolding reckoned_of
     row_flow (Next n s) e = rw e at (row_upward n n (rw e (both_next n s)))
     row_flow (Jump t s) e = rw e at (row_upward t t (rw e (both_jump t s)))
     row_flow (Either n t s) e = rw e at (row_upward n t (rw e (both_either n t s)))
@@ -122,7 +122,7 @@ module _ (flow : ℕ → Flow) (len : ℕ) (L : Listing flow len) where
     row_flow (Ends s) e = held_ends flow e
     row_flow (Stop r) e = held_stop flow (stop e)
 
-    pub held_reckoned : HeldIs flow d p (reckonedOf same less d p (flow p))
+    pub held_reckoned : HeldIs flow d p (reckoned_of same less d p (flow p))
     held_reckoned = row_flow (flow p) refl
 
   -- what a table is left with
@@ -149,7 +149,7 @@ module _ (flow : ℕ → Flow) (len : ℕ) (L : Listing flow len) where
 
     -- the row of p from those of the places above it, and of all with a level less
     pub row_reckoned : (d p : ℕ) → IsPlace p → LevelFrom flow len table d (p + 2) → ((e : ℕ) → d ≡ suc e → LevelFrom flow len table e 0)
-        → HeldIs flow d p (reckonedOf (level_of len table d) (level_of len table (d - 1)) d p (flow p))
+        → HeldIs flow d p (reckoned_of (level_of len table d) (level_of len table (d - 1)) d p (flow p))
     row_reckoned d p z R C =
         held_reckoned (level_of len table d) (level_of len table (d - 1)) d p z
         (λ q w h. let y : IsPlace q = L.ways p q z w in level_at d (p + 2) q R (omega (arith, z.even, y.even)) y.even)
@@ -166,7 +166,7 @@ module _ (flow : ℕ → Flow) (len : ℕ) (L : Listing flow len) where
 
     -- what stands at p is no call
     pub plain_down : (p : ℕ) → IsPlace p → ((t : ℕ) → Enters (flow p) t → ⊥) → PlainFrom table (p + 2)
-        → reckonedOf (row_of len table) (row_of len table) 8 p (flow p) ≡ record { figure = get_or table p 0; low = get_or table (p + 1) 0 } → get_or table p 0 ≤ 1000000000 → PlainFrom table p
+        → reckoned_of (row_of len table) (row_of len table) 8 p (flow p) ≡ record { figure = get_or table p 0; low = get_or table (p + 1) 0 } → get_or table p 0 ≤ 1000000000 → PlainFrom table p
     plain_down p z x R e small q h y l =
         ⊎_elim
         (λ (k : q ≤ p). let i : q ≡ p = omega arith in

@@ -13,8 +13,8 @@ use Rattle.paths.proofs.Owed.{clear_path}
 use Rattle.paths.proofs.Rows.{row_at}
 
 module _ (flow : ℕ → Flow) (len : ℕ) (L : Listing flow len) (table : List ℕ) (R : RowsFrom flow len table 0) where
-  abbrev figureAt : ℕ → ℕ
-  figureAt q = (row_of len table q).figure
+  abbrev figure_at : ℕ → ℕ
+  figure_at q = (row_of len table q).figure
 
   -- what follows a place that has a figure has one, and so has the routine that it calls: the table's, whatever the levels left
   on_row : {p total q n f : ℕ} → IsFigure flow p total → ((t : ℕ) → Enters (flow p) t → ⊥) → Leads (flow p) q → Row flow q n f → IsFigure flow q n
@@ -34,35 +34,35 @@ module _ (flow : ℕ → Flow) (len : ℕ) (L : Listing flow len) (table : List 
   in_row c e w r (refused x) = absurd (clear_up flow (clear_into flow c.clear e) _ x.met)
 
   module _ (p total : ℕ) (z : IsPlace p) (c : IsFigure flow p total) where
-    row : (q : ℕ) → IsPlace q → Row flow q (figureAt q) (row_of len table q).low
+    row : (q : ℕ) → IsPlace q → Row flow q (figure_at q) (row_of len table q).low
     row q y = row_at flow len L table 0 q R (omega arith) y
 
-    on_figure : (q : ℕ) → ((t : ℕ) → Enters (flow p) t → ⊥) → Leads (flow p) q → IsFigure flow q (figureAt q)
+    on_figure : (q : ℕ) → ((t : ℕ) → Enters (flow p) t → ⊥) → Leads (flow p) q → IsFigure flow q (figure_at q)
     on_figure q ne w = on_row c ne w (row q (L.ways p q z w))
 
-    past_figure : (q t : ℕ) → Enters (flow p) t → Leads (flow p) q → IsFigure flow q (figureAt q)
+    past_figure : (q t : ℕ) → Enters (flow p) t → Leads (flow p) q → IsFigure flow q (figure_at q)
     past_figure q t e w = past_row c e w (clear_path flow len L.outside 7 t (clear_into flow c.clear e)).1 (row q (L.ways p q z w))
 
     -- what a call's routine costs stands in the table
-    pub routine_figure : (q t : ℕ) → Enters (flow p) t → Leads (flow p) q → Largest flow 7 t (figureAt t)
+    pub routine_figure : (q t : ℕ) → Enters (flow p) t → Leads (flow p) q → Largest flow 7 t (figure_at t)
     routine_figure q t e w = in_row c e w (past_figure q t e w).largest.some (row t (L.entries p t z e))
 
-    total_is : (n t : ℕ) → Both (flow p) n t → total ≡ count_of (flow p) + max (figureAt n) (figureAt t)
+    total_is : (n t : ℕ) → Both (flow p) n t → total ≡ count_of (flow p) + max (figure_at n) (figure_at t)
     total_is n t B = largest_one flow c.largest (largest_join flow n t B (clear_open flow c.clear) (on_figure n B.plain B.first).largest (on_figure t B.plain B.second).largest)
 
   module _ (next : ℕ → WayOn) (same : (p n : ℕ) → IsPlace p → IsFigure flow p n → next p ≡ onward_of len table (flow p)) where
     -- followed from a place with a figure, the longest way has so many states
-    module _ (p total : ℕ) (z : IsPlace p) (c : IsFigure flow p total) (rest : (q : ℕ) → Leads (flow p) q → IsFigure flow q (figureAt q) → Follows flow next q (figureAt q)) where
-      follow : (q : ℕ) → next p ≡ On q → ((t : ℕ) → Enters (flow p) t → ⊥) → Leads (flow p) q → total ≡ count_of (flow p) + figureAt q → Follows flow next p total
+    module _ (p total : ℕ) (z : IsPlace p) (c : IsFigure flow p total) (rest : (q : ℕ) → Leads (flow p) q → IsFigure flow q (figure_at q) → Follows flow next q (figure_at q)) where
+      follow : (q : ℕ) → next p ≡ On q → ((t : ℕ) → Enters (flow p) t → ⊥) → Leads (flow p) q → total ≡ count_of (flow p) + figure_at q → Follows flow next p total
       follow q e ne w i = rw i (on e (clear_open flow c.clear) ne w (rest q w (on_figure p total z c q ne w)))
 
       either : (n t : ℕ) → Both (flow p) n t → next p ≡ better_of len table n t → Follows flow next p total
       unfolding better_of
-      either n t B e = go (le_or (figureAt t) (figureAt n))
+      either n t B e = go (le_or (figure_at t) (figure_at n))
         where
-          go : (figureAt t ≤ figureAt n) ⊎ (figureAt n < figureAt t) → Follows flow next p total
-          go (inl h) = follow n (e ∙ simp (le-ltb (figureAt n) (figureAt t) h)) B.plain B.first (omega (arith, total_is p total z c n t B))
-          go (inr h) = follow t (e ∙ simp (lt-ltb (figureAt n) (figureAt t) h)) B.plain B.second (omega (arith, total_is p total z c n t B))
+          go : (figure_at t ≤ figure_at n) ⊎ (figure_at n < figure_at t) → Follows flow next p total
+          go (inl h) = follow n (e ∙ simp (le-ltb (figure_at n) (figure_at t) h)) B.plain B.first (omega (arith, total_is p total z c n t B))
+          go (inr h) = follow t (e ∙ simp (lt-ltb (figure_at n) (figure_at t) h)) B.plain B.second (omega (arith, total_is p total z c n t B))
 
       call : (n t s : ℕ) → flow p ≡ Call n t s → next p ≡ On n → Follows flow next p total
       call n t s i e =
@@ -70,7 +70,7 @@ module _ (flow : ℕ → Flow) (len : ℕ) (L : Listing flow len) (table : List 
           let u : Enters (flow p) t = rw i refl in
           let a = routine_figure p total z c n t u w in
           let b = past_figure p total z c n t u w in
-          let h : total ≡ count_of (flow p) + figureAt t + figureAt n = largest_one flow c.largest (call_largest flow i (clear_open flow c.clear) a b.largest) in
+          let h : total ≡ count_of (flow p) + figure_at t + figure_at n = largest_one flow c.largest (call_largest flow i (clear_open flow c.clear) a b.largest) in
           rw h (past e (clear_open flow c.clear) u a w (rest n w b))
 
       follow_flow : (f : Flow) → flow p ≡ f → next p ≡ onward_of len table f → Follows flow next p total
@@ -85,7 +85,7 @@ module _ (flow : ℕ → Flow) (len : ℕ) (L : Listing flow len) (table : List 
     follows_in : (k p total : ℕ) → len ≤ p + k → IsPlace p → IsFigure flow p total → Follows flow next p total
     follows_in zero p total h z c = absurd (let i : p < len = clear_in flow len L c.clear in omega arith)
     follows_in (suc k) p total h z c =
-        follow_flow p total z c (λ q w x. let i : p < q = up flow (clear_open flow c.clear) w in follows_in k q (figureAt q) (omega arith) (L.ways p q z w) x) (flow p) refl (same p total z c)
+        follow_flow p total z c (λ q w x. let i : p < q = up flow (clear_open flow c.clear) w in follows_in k q (figure_at q) (omega arith) (L.ways p q z w) x) (flow p) refl (same p total z c)
 
     pub follows : (p total : ℕ) → IsPlace p → IsFigure flow p total → Follows flow next p total
     follows p total z c = follows_in len p total (omega arith) z c
@@ -95,9 +95,9 @@ module _ (flow : ℕ → Flow) (len : ℕ) (L : Listing flow len) (table : List 
     unfolding onward_of better_of
     next_on_tie p total z c n t s m e l k =
         let B : Both (flow p) n t = rw e (both_either n t s) in
-        let first : figureAt n ≡ m = largest_one flow (on_figure p total z c n B.plain B.first).largest l in
-        let second : figureAt t ≡ m = largest_one flow (on_figure p total z c t B.plain B.second).largest k in
-        same p total z c ∙ rw (e, le-ltb (figureAt n) (figureAt t) (omega arith))
+        let first : figure_at n ≡ m = largest_one flow (on_figure p total z c n B.plain B.first).largest l in
+        let second : figure_at t ≡ m = largest_one flow (on_figure p total z c t B.plain B.second).largest k in
+        same p total z c ∙ rw (e, le-ltb (figure_at n) (figure_at t) (omega arith))
 
 -- what is followed is a path
 pub follows_path : {flow : ℕ → Flow} {next : ℕ → WayOn} {p n : ℕ} → Follows flow next p n → Path flow 8 p n

@@ -25,19 +25,19 @@ packed_call s a b = packed_total s ((a + b) % 2 ^ 64) (max a b)
 
 -- by the rows with as many levels left, and with one less
 module _ (same less : ℕ → ℕ) where
-  unfoldable pub packedUp : ℕ → ℕ → ℕ → ℕ → ℕ
-  packedUp p n t s = cond (nat_le n p || nat_le t p) (packed_bar p) (packed_join s (same n) (same t))
+  unfoldable pub packed_up : ℕ → ℕ → ℕ → ℕ → ℕ
+  packed_up p n t s = cond (nat_le n p || nat_le t p) (packed_bar p) (packed_join s (same n) (same t))
 
-  unfoldable pub packedIn : ℕ → ℕ → ℕ → ℕ → ℕ → ℕ
-  packedIn d p n t s = cond (d == 0) (packed_bar p) (packed_call s (less t) (same n))
+  unfoldable pub packed_in : ℕ → ℕ → ℕ → ℕ → ℕ → ℕ
+  packed_in d p n t s = cond (d == 0) (packed_bar p) (packed_call s (less t) (same n))
 
-  unfoldable pub packedFlow : ℕ → ℕ → Flow → ℕ
-  packedFlow d p (Next n s) = packedUp p n n s
-  packedFlow d p (Jump t s) = packedUp p t t s
-  packedFlow d p (Either n t s) = packedUp p n t s
-  packedFlow d p (Call n t s) = packedIn d p n t s
-  packedFlow d p (Ends s) = min s 1000000001
-  packedFlow d p (Stop r) = packed_bar p
+  unfoldable pub packed_flow : ℕ → ℕ → Flow → ℕ
+  packed_flow d p (Next n s) = packed_up p n n s
+  packed_flow d p (Jump t s) = packed_up p t t s
+  packed_flow d p (Either n t s) = packed_up p n t s
+  packed_flow d p (Call n t s) = packed_in d p n t s
+  packed_flow d p (Ends s) = min s 1000000001
+  packed_flow d p (Stop r) = packed_bar p
 
 -- what is noted of a place: a kind below 4, two places and its states
 unfoldable pub notes_for : ℕ → ℕ → ℕ → ℕ → Notes

@@ -41,19 +41,19 @@ called_of s a b = total_of s ((a.figure + b.figure) % 2 ^ 64) a.low b.low
 
 -- by the rows with as many levels left, and with one less
 module _ (same less : ℕ → Reckoned) where
-  unfoldable pub upwardOf : ℕ → ℕ → ℕ → ℕ → Reckoned
-  upwardOf p n t s = cond (nat_le n p || nat_le t p) (barred p) (joined s (same n) (same t))
+  unfoldable pub upward_of : ℕ → ℕ → ℕ → ℕ → Reckoned
+  upward_of p n t s = cond (nat_le n p || nat_le t p) (barred p) (joined s (same n) (same t))
 
   unfoldable pub entered_of : ℕ → ℕ → ℕ → ℕ → ℕ → Reckoned
   entered_of d p n t s = cond (d == 0) (barred p) (called_of s (less t) (same n))
 
-  unfoldable pub reckonedOf : ℕ → ℕ → Flow → Reckoned
-  reckonedOf d p (Next n s) = upwardOf p n n s
-  reckonedOf d p (Jump t s) = upwardOf p t t s
-  reckonedOf d p (Either n t s) = upwardOf p n t s
-  reckonedOf d p (Call n t s) = entered_of d p n t s
-  reckonedOf d p (Ends s) = record { figure = min s 1000000001; low = 16777215 }
-  reckonedOf d p (Stop r) = barred p
+  unfoldable pub reckoned_of : ℕ → ℕ → Flow → Reckoned
+  reckoned_of d p (Next n s) = upward_of p n n s
+  reckoned_of d p (Jump t s) = upward_of p t t s
+  reckoned_of d p (Either n t s) = upward_of p n t s
+  reckoned_of d p (Call n t s) = entered_of d p n t s
+  reckoned_of d p (Ends s) = record { figure = min s 1000000001; low = 16777215 }
+  reckoned_of d p (Stop r) = barred p
 
 -- why a place is forbidden, if it is
 unfoldable pub why_of : ℕ → Flow → Refusal

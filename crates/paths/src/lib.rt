@@ -3,7 +3,7 @@
 
 ghost use Rattle.std.specs.Prelude.{◌≡◌, ◌-◌, ◌<◌, min, max, ◌||◌, nat_le, slice_index};
 ghost use Rattle.paths.specs.MirrorRows.{barred, row_of, unpacked_of, level_of, shown_of, why_of, turned_of, own_of, better_of, onward_of};
-ghost use Rattle.paths.specs.MirrorPacked.{packed_bar, packed_at, packed_total, packed_join, packed_call, packedUp, packedIn, packedFlow, notes_for, notes_of, noted_of};
+ghost use Rattle.paths.specs.MirrorPacked.{packed_bar, packed_at, packed_total, packed_join, packed_call, packed_up, packed_in, packed_flow, notes_for, notes_of, noted_of};
 
 use refusal::Refusal;
 
@@ -208,7 +208,7 @@ fn goes_back(p: u32, n: u32, t: u32) -> bool
 
 // The same, where a way that does not go up forbids p.
 fn upward(len: usize, table: &[u64], depth: u32, p: u32, n: u32, t: u32, s: u64) -> u64
-    ensures { result ≡ packedUp (packed_at len table.now depth) (packed_at len table.now (depth - 1)) p n t s }
+    ensures { result ≡ packed_up (packed_at len table.now depth) (packed_at len table.now (depth - 1)) p n t s }
 {
     let back = goes_back(p, n, t);
     if back {
@@ -220,7 +220,7 @@ fn upward(len: usize, table: &[u64], depth: u32, p: u32, n: u32, t: u32, s: u64)
 
 // The row of a call at p: it may enter any place, with a level less, and goes on at n.
 fn entered(len: usize, table: &[u64], depth: u32, p: u32, n: u32, t: u32, s: u64) -> u64
-    ensures { result ≡ packedIn (packed_at len table.now depth) (packed_at len table.now (depth - 1)) depth p n t s }
+    ensures { result ≡ packed_in (packed_at len table.now depth) (packed_at len table.now (depth - 1)) depth p n t s }
 {
     if depth == 0 {
         return packed_bar(p);
@@ -233,7 +233,7 @@ fn entered(len: usize, table: &[u64], depth: u32, p: u32, n: u32, t: u32, s: u64
 // The packed row of the place p, where `to` and `on` are what is noted there, with `depth` levels of calls left: from the rows of the places above it, and of
 // all places with a level less.
 pub fn reckon(len: usize, table: &[u64], depth: u32, p: u32, to: u64, on: u64) -> u64
-    ensures { result ≡ packedFlow (packed_at len table.now depth) (packed_at len table.now (depth - 1)) depth p (noted_of to on) }
+    ensures { result ≡ packed_flow (packed_at len table.now depth) (packed_at len table.now (depth - 1)) depth p (noted_of to on) }
 {
     let kind = to / PLACES;
     if kind == 0 {

@@ -11,18 +11,18 @@ use Rattle.memory.specs.declared.Board.{Board}
 use Rattle.replay.specs.declared.Stage.{Stage}
 use Rattle.replay.specs.declared.Stage.TheVariants.{Version, Records, Told, Closed}
 use Rattle.replay.specs.declared.Standing.{Standing}
-use Rattle.replay.specs.Replay.{Moment, moment, stageTaken, byteTaken, fed}
+use Rattle.replay.specs.Replay.{Moment, moment, stage_taken, byte_taken, fed}
 use Rattle.replay.specs.MirrorReplay.{over_of}
 
 pub no_true : {A : Type 0} → false ≡ true → A
 no_true h = absurd (let z : ◌≡◌ {A = ℕ} 0 1 = cc in omega arith)
 
 module _ (b : Board) (rom : List ℕ) where
-  pub by_stage : (k : Standing) (ram : List ℕ) (x : ℕ) (g : Stage) (m : Moment) → k.stage ≡ g → m ≡ stageTaken b rom g x k ram → m ≡ byteTaken b rom (moment k ram) x
-  by_stage k ram x g m e h = h ∙ ap (λ (s : Stage). stageTaken b rom s x k ram) (sym e)
+  pub by_stage : (k : Standing) (ram : List ℕ) (x : ℕ) (g : Stage) (m : Moment) → k.stage ≡ g → m ≡ stage_taken b rom g x k ram → m ≡ byte_taken b rom (moment k ram) x
+  by_stage k ram x g m e h = h ∙ ap (λ (s : Stage). stage_taken b rom s x k ram) (sym e)
 
-  stays : (g : Stage) (x : ℕ) (k : Standing) (ram : List ℕ) → over_of g ≡ true → stageTaken b rom g x k ram ≡ moment k ram
-  unfolding stageTaken
+  stays : (g : Stage) (x : ℕ) (k : Standing) (ram : List ℕ) → over_of g ≡ true → stage_taken b rom g x k ram ≡ moment k ram
+  unfolding stage_taken
   stays Version x k ram h = no_true h
   stays (Records p) x k ram h = no_true h
   stays (Told t) x k ram h = refl
@@ -37,7 +37,7 @@ module _ (b : Board) (rom : List ℕ) where
 
   module _ (s : Moment) (bytes : List ℕ) (i : ℕ) where
     -- the byte at i, and then the rest
-    pub goes_on : i < length bytes → (t : Moment) → t ≡ byteTaken b rom s (get_or bytes i 0) → fed b rom t (drop (i + 1) bytes) ≡ fed b rom s (drop i bytes)
+    pub goes_on : i < length bytes → (t : Moment) → t ≡ byte_taken b rom s (get_or bytes i 0) → fed b rom t (drop (i + 1) bytes) ≡ fed b rom s (drop i bytes)
     unfolding fed
     goes_on l t e = rw (add-one i, drop-cons bytes i 0 l, e)
 
@@ -50,4 +50,4 @@ module _ (b : Board) (rom : List ℕ) where
   unfolding fed
   parted zero s xs = refl
   parted (suc m) s [] = refl
-  parted (suc m) s (x ∷ xs) = parted m (byteTaken b rom s x) xs
+  parted (suc m) s (x ∷ xs) = parted m (byte_taken b rom s x) xs

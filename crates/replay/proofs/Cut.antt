@@ -12,7 +12,7 @@ use Rattle.replay.specs.declared.Stage.TheVariants.{Version, Records, Told, Clos
 use Rattle.replay.specs.declared.Standing.{Standing}
 use Rattle.replay.specs.declared.Said.TheVariants.{Final}
 use Rattle.replay.specs.Replay.{Moment, moment, staged, ended, end_of, ended_of, closed, fed, begun, replay_of}
-use Rattle.replay.specs.Cuts.{Arrived, arrived, delivered, took, stageArrived, deliverOf, deliveries, joined}
+use Rattle.replay.specs.Cuts.{Arrived, arrived, delivered, took, stage_arrived, deliver_of, deliveries, joined}
 use Rattle.replay.specs.MirrorReplay.{over_of}
 use Rattle.replay.proofs.Bytes.{no_true, told_stays}
 
@@ -26,29 +26,29 @@ module _ (b : Board) (rom : List ℕ) where
   left a = moment a.answer.replay a.mem
 
   -- a delivery leaves what its bytes do; where it is refused they would do nothing either
-  by_stage : (g : Stage) (s : Moment) (d : List ℕ) → (over_of g ≡ true → fed b rom s d ≡ s) → left (stageArrived b rom g s d) ≡ fed b rom s d
-  unfolding stageArrived
+  by_stage : (g : Stage) (s : Moment) (d : List ℕ) → (over_of g ≡ true → fed b rom s d ≡ s) → left (stage_arrived b rom g s d) ≡ fed b rom s d
+  unfolding stage_arrived
   by_stage Version s d h = refl
   by_stage (Records p) s d h = refl
   by_stage (Told t) s d h = sym (h refl)
   by_stage Closed s d h = sym (h refl)
 
   -- what a delivery is, by whether the replay is over
-  pub late : (g : Stage) (s : Moment) (d : List ℕ) → over_of g ≡ true → stageArrived b rom g s d ≡ arrived (delivered s.replay (Final (Halted ReplayEnded))) s.mem
-  unfolding stageArrived
+  pub late : (g : Stage) (s : Moment) (d : List ℕ) → over_of g ≡ true → stage_arrived b rom g s d ≡ arrived (delivered s.replay (Final (Halted ReplayEnded))) s.mem
+  unfolding stage_arrived
   late Version s d h = no_true h
   late (Records p) s d h = no_true h
   late (Told t) s d h = refl
   late Closed s d h = refl
 
-  pub in_time : (g : Stage) (s : Moment) (d : List ℕ) → over_of g ≡ false → stageArrived b rom g s d ≡ took b rom (fed b rom s d)
-  unfolding stageArrived
+  pub in_time : (g : Stage) (s : Moment) (d : List ℕ) → over_of g ≡ false → stage_arrived b rom g s d ≡ took b rom (fed b rom s d)
+  unfolding stage_arrived
   in_time Version s d h = refl
   in_time (Records p) s d h = refl
   in_time (Told t) s d h = no_true (sym h)
   in_time Closed s d h = no_true (sym h)
 
-  each : (s : Moment) (d : List ℕ) → left (deliverOf b rom s d) ≡ fed b rom s d
+  each : (s : Moment) (d : List ℕ) → left (deliver_of b rom s d) ≡ fed b rom s d
   each s d = by_stage s.replay.stage s d (λ h. told_stays b rom s d h)
 
   in_turn : (s : Moment) (ds : List (List ℕ)) → deliveries b rom s ds ≡ fed b rom s (joined ds)
@@ -67,6 +67,6 @@ second_end k = refl
 
 -- an end after a difference or a refusal repeats its report, and a delivery after it is 20 and changes nothing
 module _ (b : Board) (rom : List ℕ) (s : Moment) (d : List ℕ) where
-  pub after_end : deliverOf b rom (moment (ended_of s.replay).replay s.mem) d ≡ arrived (delivered (ended_of s.replay).replay (Final (Halted ReplayEnded))) s.mem
-  unfolding ended_of stageArrived
+  pub after_end : deliver_of b rom (moment (ended_of s.replay).replay s.mem) d ≡ arrived (delivered (ended_of s.replay).replay (Final (Halted ReplayEnded))) s.mem
+  unfolding ended_of stage_arrived
   after_end = refl

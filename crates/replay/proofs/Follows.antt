@@ -25,7 +25,7 @@ use Rattle.replay.specs.declared.Stage.{Stage}
 use Rattle.replay.specs.declared.Stage.TheVariants.{Version, Records, Told, Closed}
 use Rattle.replay.specs.declared.Standing.{Standing}
 use Rattle.replay.specs.Replay as d
-use Rattle.replay.specs.Replay.{Moment, moment, nothing, longer, grown, standing, staged, begins, went, taken, compared, held, first_of, stageTaken, fed, begun, ended_of, replay_of}
+use Rattle.replay.specs.Replay.{Moment, moment, nothing, longer, grown, standing, staged, begins, went, taken, compared, held, first_of, stage_taken, fed, begun, ended_of, replay_of}
 use Rattle.replay.specs.Followed.{state, Any, Describes, Followed}
 use Rattle.replay.proofs.Bytes.{told_stays}
 use Rattle.replay.proofs.Records.{whole_of, eleven}
@@ -59,7 +59,7 @@ module _ (b : Board) (rom : List ℕ) where
 
   -- the first byte beyond 1,000,000 steps
   over : (k : Standing) (ram : List ℕ) (x : ℕ) (xs : List ℕ) → leb 1000000 k.steps ≡ true → Same k ram (fed b rom (moment (staged k (Records nothing)) ram) (x ∷ xs))
-  unfolding fed stageTaken
+  unfolding fed stage_taken
   over k ram x xs e = rw e (told_same k ram (Halted BudgetTooLarge) xs)
 
   -- one byte more, with what comes of the rest
@@ -71,7 +71,7 @@ module _ (b : Board) (rom : List ℕ) where
     second false f u g = let z : (grown p x).count ≡ 11 → ⊥ = λ h. absurd (omega arith) in rw (f, ne_eqb _ _ z) rest
 
     first : (t : Bool) → (eqb p.count 0 && leb 1000000 k.steps) ≡ t → Same k ram (fed b rom (moment (staged k (Records p)) ram) (x ∷ xs))
-    unfolding fed stageTaken
+    unfolding fed stage_taken
     first true e = rw e (told_same k ram (Halted BudgetTooLarge) xs)
     first false e = rw e (second _ refl _ refl)
 
@@ -264,7 +264,7 @@ module _ (b : Board) (rom ram : List ℕ) (r : Registers) where
 
   started : (file : List ℕ) → Small file → (t : Bool)
       → Followed b rom ram r file (d.closed (fed b rom (moment (standing r 0 0 (cond t Version (Told (Halted BadBoard)))) ram) file))
-  unfolding fed stageTaken first_of
+  unfolding fed stage_taken first_of
   started [] w true = idle [] Version (moment (standing r 0 0 Version) ram) (record { regs_same = refl; steps_same = refl; states_same = refl; mem_same = refl })
   started (x ∷ xs) w true = versioned x xs (λ i. w (suc i)) (eqb x 1)
   started file w false = idle file Version _ (told_same b rom (standing r 0 0 Version) ram (Halted BadBoard) file)

@@ -17,7 +17,7 @@ use Rattle.memory.specs.declared.Board.{Board}
 use Rattle.step.specs.Step.{After, good_start, step_of}
 use Rattle.step.proofs.Laws.{step_refused, step_states}
 use Rattle.run.specs.Run.{Ran, ran, told}
-use Rattle.run.specs.MirrorAlong.{strays_of, alongFrom, start_of, fewer_of, along_of, differs_at}
+use Rattle.run.specs.MirrorAlong.{strays_of, along_from, start_of, fewer_of, along_of, differs_at}
 use Rattle.run.specs.declared.Ending.{Ending}
 use Rattle.run.specs.declared.Ending.TheVariants.{AtStop, Spent, Halted}
 use Rattle.run.proofs.Strays.{present}
@@ -134,13 +134,13 @@ module _ (b : Board) (rom xs : List ℕ) where
 
     turn : (n : ℕ) (ram : List ℕ) (r : Registers) (steps states : ℕ) (few : s₀ + steps < 1000000) (long : steps * 11 + 11 ≤ length xs) (small : states < 2 ^ 56)
         → Same n (step_of b rom ram r).mem (step_of b rom ram r).answer.regs (steps + 1) (states + (step_of b rom ram r).answer.states)
-        (alongFrom b rom 1 xs n (step_of b rom ram r).mem (step_of b rom ram r).answer.regs (steps + 1) (states + (step_of b rom ram r).answer.states))
+        (along_from b rom 1 xs n (step_of b rom ram r).mem (step_of b rom ram r).answer.regs (steps + 1) (states + (step_of b rom ram r).answer.states))
         → (t : Bool) → eqb r.pc 1 ≡ t → (u : Bool) → strays_of xs steps r.pc r.condition states ≡ u → (o : Outcome) → (step_of b rom ram r).answer.outcome ≡ o
-        → Same (suc n) ram r steps states (alongFrom b rom 1 xs (suc n) ram r steps states)
-    unfolding alongFrom
+        → Same (suc n) ram r steps states (along_from b rom 1 xs (suc n) ram r steps states)
+    unfolding along_from
     turn n ram r steps states few long small f true e u g o d = rw e (here (suc n) ram r steps states AtStop)
     turn n ram r steps states few long small f false e true g o d = rw (e, g) (here (suc n) ram r steps states AtStop)
-    turn n ram r steps states few long small f false e false g Done d = rw (e, g, d) (through ram r steps states few long small g n (alongFrom b rom 1 xs n (step_of b rom ram r).mem (step_of b rom ram r).answer.regs (steps + 1) (states + (step_of b rom ram r).answer.states)) d f)
+    turn n ram r steps states few long small f false e false g Done d = rw (e, g, d) (through ram r steps states few long small g n (along_from b rom 1 xs n (step_of b rom ram r).mem (step_of b rom ram r).answer.regs (steps + 1) (states + (step_of b rom ram r).answer.states)) d f)
     turn n ram r steps states few long small f false e false g (Refused x) d =
         let m : (step_of b rom ram r).mem ≡ ram = ap (λ (a : After). a.mem) (step_refused r b rom ram x d) in
         rw (e, g, d, m) (here (suc n) ram r steps states (Halted x))
@@ -151,8 +151,8 @@ module _ (b : Board) (rom xs : List ℕ) where
     last ram r steps states false = here zero ram r steps states Spent
 
     beside : (n : ℕ) (ram : List ℕ) (r : Registers) (steps states : ℕ) → s₀ + steps + n ≤ 1000000 → (steps + n) * 11 ≤ length xs → states + n * 32 < 2 ^ 56
-        → Same n ram r steps states (alongFrom b rom 1 xs n ram r steps states)
-    unfolding alongFrom
+        → Same n ram r steps states (along_from b rom 1 xs n ram r steps states)
+    unfolding along_from
     beside zero ram r steps states few long small = last ram r steps states (eqb r.pc 1)
     beside (suc n) ram r steps states few long small =
         let s = step_states r b rom ram in
@@ -189,23 +189,23 @@ fresh_is (Told t) h = no_true h
 fresh_is Closed h = no_true h
 
 module _ (b : Board) (rom xs : List ℕ) (k : Standing) (ram : List ℕ) (few : k.steps ≤ 1000000) (small : k.states < 4294967296) where
-  abbrev run-beside : Ran
-  run-beside = along_of b rom ram k.regs (1000000 - k.steps) xs k.states
+  abbrev run_beside : Ran
+  run_beside = along_of b rom ram k.regs (1000000 - k.steps) xs k.states
 
   abbrev most : ℕ
   most = fewer_of (length xs / 11) (1000000 - k.steps)
 
-  begun : Same b rom xs k.steps most ram k.regs 0 k.states run-beside
+  begun : Same b rom xs k.steps most ram k.regs 0 k.states run_beside
   begun =
       started b rom xs k.steps ram k.regs k.states most (omega (arith, fits (length xs / 11) (1000000 - k.steps))) (counted (length xs) (1000000 - k.steps)) small _ refl
 
-  pub passed_steps : run-beside.answer.steps ≤ 1000000 - k.steps
+  pub passed_steps : run_beside.answer.steps ≤ 1000000 - k.steps
   passed_steps = omega (arith, begun.1, fits (length xs / 11) (1000000 - k.steps))
 
-  pub passed_bytes : run-beside.answer.steps * 11 ≤ length xs
+  pub passed_bytes : run_beside.answer.steps * 11 ≤ length xs
   passed_bytes = omega (arith, begun.1, counted (length xs) (1000000 - k.steps))
 
-  pub passes : fresh_of k.stage ≡ true → fed b rom (moment k ram) xs ≡ fed b rom (passed_of b rom k ram xs) (drop (run-beside.answer.steps * 11) xs)
+  pub passes : fresh_of k.stage ≡ true → fed b rom (moment k ram) xs ≡ fed b rom (passed_of b rom k ram xs) (drop (run_beside.answer.steps * 11) xs)
   passes fresh =
       let z : k.steps + 0 ≡ k.steps = omega arith in
       ap (λ (g : Stage). fed b rom (moment (standing k.regs k.steps k.states g) ram) xs) (fresh_is k.stage fresh)

@@ -16,7 +16,7 @@ use Rattle.replay.specs.declared.Report.TheVariants.{Halted}
 use Rattle.replay.specs.declared.Stage.{Stage}
 use Rattle.replay.specs.declared.Stage.TheVariants.{Version, Records, Told, Closed}
 use Rattle.replay.specs.declared.Standing.{Standing}
-use Rattle.replay.specs.Replay.{Moment, moment, part, nothing, longer, grown, standing, staged, begins, went, taken, compared, held, stageTaken, fed}
+use Rattle.replay.specs.Replay.{Moment, moment, part, nothing, longer, grown, standing, staged, begins, went, taken, compared, held, stage_taken, fed}
 use Rattle.replay.proofs.Bytes.{told_stays}
 
 -- what is compared, and the step after it, don't look at the stage
@@ -41,27 +41,27 @@ module _ (b : Board) (rom ram : List ℕ) (k : Standing) (small : k.steps < 1000
   abbrev two : Part
   two = part 2 whole.size 0 0 0
 
-  abbrev at-record : Moment
-  at-record = moment (staged k (Records nothing)) ram
+  abbrev at_record : Moment
+  at_record = moment (staged k (Records nothing)) ram
 
   -- after the two bytes of the length
-  lengths : (xs : List ℕ) → fed b rom at-record (x0 ∷ x1 ∷ xs)
+  lengths : (xs : List ℕ) → fed b rom at_record (x0 ∷ x1 ∷ xs)
       ≡ fed b rom (moment (staged k (cond (eqb two.size 9) (Records two) (Told (Halted (BadLength (begins k.steps)))))) ram) xs
-  unfolding fed stageTaken held grown
+  unfolding fed stage_taken held grown
   lengths xs = rw (lt-leb _ _ small)
 
   -- after the nine others
   nine : (xs : List ℕ) → fed b rom (moment (staged k (Records two)) ram) (x2 ∷ x3 ∷ x4 ∷ x5 ∷ x6 ∷ x7 ∷ x8 ∷ x9 ∷ x10 ∷ xs) ≡ fed b rom (compared b rom whole k ram) xs
-  unfolding fed stageTaken held grown
+  unfolding fed stage_taken held grown
   nine xs = ap (λ (m : Moment). fed b rom m xs) (compared_same b rom whole k (Records (part 10 two.size whole.pc x6 (longer (longer (longer 0 x7) x8) x9))) ram)
 
   -- 18 after two bytes, whatever follows; else the record is compared
   record_by : (xs : List ℕ) (t : Bool) → eqb two.size 9 ≡ t
-      → fed b rom at-record (x0 ∷ x1 ∷ x2 ∷ x3 ∷ x4 ∷ x5 ∷ x6 ∷ x7 ∷ x8 ∷ x9 ∷ x10 ∷ xs)
+      → fed b rom at_record (x0 ∷ x1 ∷ x2 ∷ x3 ∷ x4 ∷ x5 ∷ x6 ∷ x7 ∷ x8 ∷ x9 ∷ x10 ∷ xs)
       ≡ cond t (fed b rom (compared b rom whole k ram) xs) (moment (staged k (Told (Halted (BadLength (begins k.steps))))) ram)
   record_by xs true e = lengths _ ∙ rw e (nine xs)
   record_by xs false e = lengths _ ∙ rw e (told_stays b rom _ _ refl)
 
-  pub eleven : (xs : List ℕ) → fed b rom at-record (x0 ∷ x1 ∷ x2 ∷ x3 ∷ x4 ∷ x5 ∷ x6 ∷ x7 ∷ x8 ∷ x9 ∷ x10 ∷ xs)
+  pub eleven : (xs : List ℕ) → fed b rom at_record (x0 ∷ x1 ∷ x2 ∷ x3 ∷ x4 ∷ x5 ∷ x6 ∷ x7 ∷ x8 ∷ x9 ∷ x10 ∷ xs)
       ≡ cond (eqb two.size 9) (fed b rom (compared b rom whole k ram) xs) (moment (staged k (Told (Halted (BadLength (begins k.steps))))) ram)
   eleven xs = record_by xs _ refl

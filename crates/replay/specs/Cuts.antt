@@ -34,19 +34,19 @@ module _ (b : Board) (rom : List ℕ) where
   took s = arrived (delivered s.replay (said_of s.replay.stage)) s.mem
 
   -- after the end, a difference or a refusal a delivery, an empty one too, is 20 and changes nothing
-  unfoldable pub stageArrived : Stage → Moment → List ℕ → Arrived
-  stageArrived Version s bytes = took (fed b rom s bytes)
-  stageArrived (Records p) s bytes = took (fed b rom s bytes)
-  stageArrived (Told t) s bytes = arrived (delivered s.replay (Final (Halted ReplayEnded))) s.mem
-  stageArrived Closed s bytes = arrived (delivered s.replay (Final (Halted ReplayEnded))) s.mem
+  unfoldable pub stage_arrived : Stage → Moment → List ℕ → Arrived
+  stage_arrived Version s bytes = took (fed b rom s bytes)
+  stage_arrived (Records p) s bytes = took (fed b rom s bytes)
+  stage_arrived (Told t) s bytes = arrived (delivered s.replay (Final (Halted ReplayEnded))) s.mem
+  stage_arrived Closed s bytes = arrived (delivered s.replay (Final (Halted ReplayEnded))) s.mem
 
-  abbrev pub deliverOf : Moment → List ℕ → Arrived
-  deliverOf s bytes = stageArrived s.replay.stage s bytes
+  abbrev pub deliver_of : Moment → List ℕ → Arrived
+  deliver_of s bytes = stage_arrived s.replay.stage s bytes
 
   -- deliveries in turn
   unfoldable pub deliveries : Moment → List (List ℕ) → Moment
   deliveries s [] = s
-  deliveries s (d ∷ ds) = deliveries (moment (deliverOf s d).answer.replay (deliverOf s d).mem) ds
+  deliveries s (d ∷ ds) = deliveries (moment (deliver_of s d).answer.replay (deliver_of s d).mem) ds
 
 -- the recording that was cut
 unfoldable pub joined : List (List ℕ) → List ℕ

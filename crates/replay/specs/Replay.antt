@@ -102,19 +102,19 @@ module _ (b : Board) (rom : List ℕ) where
       (cond (eqb p.count 11) (compared p k ram) (moment (staged k (Records p)) ram))
 
   -- one byte at a stage: the version; a byte of a record, the first of them only within 1,000,000 steps; what is told stays
-  unfoldable pub stageTaken : Stage → ℕ → Standing → List ℕ → Moment
-  stageTaken Version x k ram = moment (first_of x k) ram
-  stageTaken (Records p) x k ram =
+  unfoldable pub stage_taken : Stage → ℕ → Standing → List ℕ → Moment
+  stage_taken Version x k ram = moment (first_of x k) ram
+  stage_taken (Records p) x k ram =
       cond (eqb p.count 0 && leb 1000000 k.steps) (moment (staged k (Told (Halted BudgetTooLarge))) ram) (held (grown p x) k ram)
-  stageTaken (Told t) x k ram = moment k ram
-  stageTaken Closed x k ram = moment k ram
+  stage_taken (Told t) x k ram = moment k ram
+  stage_taken Closed x k ram = moment k ram
 
-  abbrev pub byteTaken : Moment → ℕ → Moment
-  byteTaken s x = stageTaken s.replay.stage x s.replay s.mem
+  abbrev pub byte_taken : Moment → ℕ → Moment
+  byte_taken s x = stage_taken s.replay.stage x s.replay s.mem
 
   unfoldable pub fed : Moment → List ℕ → Moment
   fed s [] = s
-  fed s (x ∷ xs) = fed (byteTaken s x) xs
+  fed s (x ∷ xs) = fed (byte_taken s x) xs
 
 -- 1, then the version
 unfoldable pub begun : Board → List ℕ → List ℕ → Registers → Standing

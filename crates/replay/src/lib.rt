@@ -2,9 +2,9 @@
 #![tactic(auto)]
 
 ghost use Rattle.std.specs.Prelude.{◌≡◌, ◌*◌, ◌%◌, ◌^◌, ◌≤◌, ◌<◌};
-ghost use Rattle.replay.specs.Cuts.{said_of, arrived, deliverOf};
+ghost use Rattle.replay.specs.Cuts.{said_of, arrived, deliver_of};
 ghost use Rattle.replay.specs.MirrorReplay.{over_of, fresh_of, ahead_of, missing_of, passed_of};
-ghost use Rattle.replay.specs.Replay.{field_number, byteTaken, first_of, nothing, longer, grown, begins, ended, end_of, ended_of, moment, staged, taken, compared, held, stageTaken, fed, begun, replayed, replay_of};
+ghost use Rattle.replay.specs.Replay.{field_number, byte_taken, first_of, nothing, longer, grown, begins, ended, end_of, ended_of, moment, staged, taken, compared, held, stage_taken, fed, begun, replayed, replay_of};
 
 use memory::Board;
 use refusal::{Outcome, Refusal};
@@ -226,7 +226,7 @@ fn hold(p: Part, k: Standing, b: Board, rom: &[u8], ram: &mut [u8]) -> Standing
 
 // A byte of a record, of which p was read before.
 fn record_byte(p: Part, x: u8, k: Standing, b: Board, rom: &[u8], ram: &mut [u8]) -> Standing
-    ensures { moment result ram.new ≡ stageTaken b rom.now (Stage.Records p) x k ram.old }
+    ensures { moment result ram.new ≡ stage_taken b rom.now (Stage.Records p) x k ram.old }
 {
     if (p.count == 0) & (1000000 <= k.steps) {
         return at(k, Stage::Told(Report::Halted(Refusal::BudgetTooLarge)));
@@ -244,7 +244,7 @@ fn first_byte(x: u8, k: Standing) -> Standing
 }
 
 fn byte_taken(k: Standing, x: u8, b: Board, rom: &[u8], ram: &mut [u8]) -> Standing
-    ensures { moment result ram.new ≡ byteTaken b rom.now (moment k ram.old) x }
+    ensures { moment result ram.new ≡ byte_taken b rom.now (moment k ram.old) x }
 {
     let g = k.stage;
     match g {
@@ -424,7 +424,7 @@ pub fn said_of(g: Stage) -> Said
 
 // What has arrived of the recording since the delivery before it.
 pub fn deliver(k: Standing, b: Board, rom: &[u8], ram: &mut [u8], bytes: &[u8]) -> Delivered
-    ensures { arrived result ram.new ≡ deliverOf b rom.now (moment k ram.old) bytes.now }
+    ensures { arrived result ram.new ≡ deliver_of b rom.now (moment k ram.old) bytes.now }
 {
     let g = k.stage;
     let late = over(g);

@@ -33,7 +33,7 @@ use Rattle.codes.specs.declared.Instruction.{Instruction}
 use Rattle.codes.specs.declared.Instruction.TheVariants.{Nop, Stc, LdcReg, Ccr, Alu, IncDec, AddsSubs, Decimal, Shift, Unary, Multiply, Divide, Takes, Gives, Move, Bcc, Jmp, Bsr, Jsr, Rts}
 use Rattle.flow.specs.Targets.{next_of}
 use Rattle.decoder.specs.MirrorDecode.{decode_of}
-use Rattle.step.specs.Follow.{aim_of, followOf}
+use Rattle.step.specs.Follow.{aim_of, follow_of}
 use Rattle.step.specs.Step.{effect_of, After, after, finish_of, carry_of, obey_of, act_of, fetch_of, good_pc, step_of}
 use Rattle.step.specs.Processor.{Calling}
 use Rattle.routine.specs.MirrorTurn.{was_read, aims, room_at, below_of, completes_in}
@@ -125,8 +125,8 @@ module _ (r : Registers) (b : Board) (rom ram : List ℕ) where
   carried (NotRead f) i next e = refl
 
   call_by : (g : Goes) (i : Instruction) (next : ℕ) → Calling g → EffectIs next g (effect_of next r b rom ram i)
-      → done_of (carry_of (followOf r b rom ram g next) i next r b rom ram).answer.outcome ≡ completes_in g r b rom ram
-  unfolding followOf completes_in
+      → done_of (carry_of (follow_of r b rom ram g next) i next r b rom ram).answer.outcome ≡ completes_in g r b rom ram
+  unfolding follow_of completes_in
   call_by Onward i next c e = absurd c
   call_by (Branches d reach) i next c e = absurd c
   call_by (Jumps t) i next c e = absurd c
@@ -149,7 +149,7 @@ module _ (r : Registers) (b : Board) (rom ram : List ℕ) where
         let z : ◌≡◌ {A = ℕ} 0 1 = cc in absurd (omega arith)
 
     obeyed : (i : Instruction) (n : ℕ) → decode_of r.pc (drop r.pc rom) ≡ Code i n
-        → step_of b rom ram r ≡ carry_of (followOf r b rom ram (goes_of i) (next_of r.pc n)) i (next_of r.pc n) r b rom ram
+        → step_of b rom ram r ≡ carry_of (follow_of r b rom ram (goes_of i) (next_of r.pc n)) i (next_of r.pc n) r b rom ram
     unfolding step_of fetch_of act_of obey_of
     obeyed i n d = let l : ltb r.pc (length rom) ≡ true = within i n d _ refl in rw (good, l, d)
 

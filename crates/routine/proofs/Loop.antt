@@ -10,7 +10,7 @@ use Rattle.registers.specs.declared.Registers.{Registers}
 use Rattle.memory.specs.Board.{good_board}
 use Rattle.memory.specs.declared.Board.{Board}
 use Rattle.step.specs.Step.{good_pc}
-use Rattle.routine.specs.Routine.{routined, told, routineFrom}
+use Rattle.routine.specs.Routine.{routined, told, routine_from}
 use Rattle.routine.specs.MirrorTurn.{Left, left, turn_in}
 use Rattle.routine.specs.declared.Ending.{Ending}
 use Rattle.routine.specs.declared.Ending.TheVariants.{AtStop, Spent}
@@ -28,20 +28,20 @@ carried_told : (r : Registers) {kept : List ℕ} {count : ℕ} {ks : List ℕ} (
 carried_told r steps states why c = cc (c.is, c.counted)
 
 module _ (b : Board) (rom : List ℕ) (stop : ℕ) (ram : List ℕ) (r : Registers) (ks : List ℕ) (steps states : ℕ) (kept : List ℕ) (count : ℕ) (c : Carries kept count ks) where
-  at_stop : (n : ℕ) → r.pc ≡ stop → routineFrom b rom stop n ram r ks steps states ≡ routined (told r ks steps states AtStop) ram
-  unfolding routineFrom
+  at_stop : (n : ℕ) → r.pc ≡ stop → routine_from b rom stop n ram r ks steps states ≡ routined (told r ks steps states AtStop) ram
+  unfolding routine_from
   at_stop zero e = rw (eq-eqb _ _ e)
   at_stop (suc n) e = rw (eq-eqb _ _ e)
 
-  pub stops : (n : ℕ) → r.pc ≡ stop → routineFrom b rom stop n ram r ks steps states ≡ routined (told_in r kept count steps states AtStop) ram
+  pub stops : (n : ℕ) → r.pc ≡ stop → routine_from b rom stop n ram r ks steps states ≡ routined (told_in r kept count steps states AtStop) ram
   stops n e = at_stop n e ∙ ap (λ (a : RoutineAnswer). routined a ram) (carried_told r steps states AtStop c)
 
-  none_left : (r.pc ≡ stop → ⊥) → (n : ℕ) → n ≡ zero → routineFrom b rom stop n ram r ks steps states ≡ routined (told r ks steps states Spent) ram
-  unfolding routineFrom
+  none_left : (r.pc ≡ stop → ⊥) → (n : ℕ) → n ≡ zero → routine_from b rom stop n ram r ks steps states ≡ routined (told r ks steps states Spent) ram
+  unfolding routine_from
   none_left away n z = rw (z, ne_eqb _ _ away)
 
   pub spent : (budget : ℕ) → (r.pc ≡ stop → ⊥) → steps ≡ budget
-      → routineFrom b rom stop (budget - steps) ram r ks steps states ≡ routined (told_in r kept count steps states Spent) ram
+      → routine_from b rom stop (budget - steps) ram r ks steps states ≡ routined (told_in r kept count steps states Spent) ram
   spent budget away e =
       none_left away (budget - steps) (omega arith) ∙ ap (λ (a : RoutineAnswer). routined a ram) (carried_told r steps states Spent c)
 
@@ -52,13 +52,13 @@ module _ (b : Board) (rom : List ℕ) (stop : ℕ) (ram : List ℕ) (r : Registe
     pub one : t.steps ≡ 1
     pub length_stays : length m ≡ length ram
     pub still_good : good_board b (length rom) (length m) && good_pc t.regs.pc ≡ true
-    pub goes : routineFrom b rom stop (budget - steps) ram r ks steps states
-        ≡ routineFrom b rom stop (budget - (steps + t.steps)) m t.regs xs (steps + t.steps) (states + t.states)
+    pub goes : routine_from b rom stop (budget - steps) ram r ks steps states
+        ≡ routine_from b rom stop (budget - (steps + t.steps)) m t.regs xs (steps + t.steps) (states + t.states)
 
   -- what the last one leaves
   pub record Last (budget : ℕ) (t : Turned) (m : List ℕ) (why : Ending) : Type 0 where
     pub length_kept : length m ≡ length ram
-    pub told_as : routineFrom b rom stop (budget - steps) ram r ks steps states
+    pub told_as : routine_from b rom stop (budget - steps) ram r ks steps states
         ≡ routined (told_in t.regs t.kept t.count (steps + t.steps) (states + t.states) why) m
 
   module _ (budget : ℕ) (le : steps ≤ budget) (ne : steps ≡ budget → ⊥) where

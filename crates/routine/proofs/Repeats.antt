@@ -28,7 +28,7 @@ use Rattle.step.specs.Step.{After, after, answered, good_pc, step_of}
 use Rattle.step.specs.Processor.{State, Calling, processor}
 use Rattle.step.proofs.Laws.{step_refused}
 use Rattle.run.specs.Repeated.{state}
-use Rattle.routine.specs.Routine.{Routined, routined, told, in_order_of, Turn, on, goes_home, leaves, pushing, returning, turn_by, turn_of, taken, onward, routineFrom, routine_of}
+use Rattle.routine.specs.Routine.{Routined, routined, told, in_order_of, Turn, on, goes_home, leaves, pushing, returning, turn_by, turn_of, taken, onward, routine_from, routine_of}
 use Rattle.routine.specs.Repeated.{Away, Before, RunsTo, stopped, spent, halted, ninth_met, elsewhere_met, returned, Repeated}
 use Rattle.routine.specs.declared.Ending.{Ending}
 use Rattle.routine.specs.declared.Ending.TheVariants.{AtStop, Spent, Halted, Returned, Ninth, Elsewhere}
@@ -99,12 +99,12 @@ module _ (b : Board) (rom : List ℕ) (stop : ℕ) where
     -- what the mode makes of the turn, where the runs after it are as they are to be
     abbrev after_turn : List ℕ → Turn → Routined
     after_turn ks t =
-        taken t (λ xs. routineFrom b rom stop n S.mem S.answer.regs xs (steps + 1) (states + S.answer.states))
+        taken t (λ xs. routine_from b rom stop n S.mem S.answer.regs xs (steps + 1) (states + S.answer.states))
         (routined (told S.answer.regs ks (steps + 1) (states + S.answer.states) Returned) S.mem)
         (λ why. routined (told r ks steps states why) ram)
 
     module _ (o : S.answer.outcome ≡ Done)
-        (rest : (xs : List ℕ) → From n S.mem S.answer.regs xs (steps + 1) (states + S.answer.states) (routineFrom b rom stop n S.mem S.answer.regs xs (steps + 1) (states + S.answer.states))) where
+        (rest : (xs : List ℕ) → From n S.mem S.answer.regs xs (steps + 1) (states + S.answer.states) (routine_from b rom stop n S.mem S.answer.regs xs (steps + 1) (states + S.answer.states))) where
       does : P.Does here there S.answer.states
       does = ap (λ (x : Outcome). after (answered S.answer.regs S.answer.states x) S.mem) o
 
@@ -173,32 +173,32 @@ module _ (b : Board) (rom : List ℕ) (stop : ℕ) where
       by_decoded ks (NoCode f) d = plain ks (λ k (i, l, e, q, z). nothing f d i l e) (λ (i, l, e, q). nothing f d i l e)
 
     turn : (ks : List ℕ)
-        → ((xs : List ℕ) → From n S.mem S.answer.regs xs (steps + 1) (states + S.answer.states) (routineFrom b rom stop n S.mem S.answer.regs xs (steps + 1) (states + S.answer.states)))
-        → eqb r.pc stop ≡ false → (x : Outcome) → S.answer.outcome ≡ x → From (suc n) ram r ks steps states (routineFrom b rom stop (suc n) ram r ks steps states)
-    unfolding routineFrom onward
+        → ((xs : List ℕ) → From n S.mem S.answer.regs xs (steps + 1) (states + S.answer.states) (routine_from b rom stop n S.mem S.answer.regs xs (steps + 1) (states + S.answer.states)))
+        → eqb r.pc stop ≡ false → (x : Outcome) → S.answer.outcome ≡ x → From (suc n) ram r ks steps states (routine_from b rom stop (suc n) ram r ks steps states)
+    unfolding routine_from onward
     turn ks rest h Done o = rw (h, o) (by_decoded o rest ks _ refl)
     turn ks rest h (Refused f) o = rw (h, o) (at_once (suc n) ram r ks steps states (Halted f) (halted none away (omega arith) (step_refused r b rom ram f o)))
 
   start : (left : ℕ) (ram : List ℕ) (r : Registers) (ks : List ℕ) (steps states : ℕ) → eqb r.pc stop ≡ true
-      → From left ram r ks steps states (routineFrom b rom stop left ram r ks steps states)
-  unfolding routineFrom
+      → From left ram r ks steps states (routine_from b rom stop left ram r ks steps states)
+  unfolding routine_from
   start zero ram r ks steps states h = rw h (at_once zero ram r ks steps states AtStop (stopped none (eqb-true _ _ h)))
   start (suc n) ram r ks steps states h = rw h (at_once (suc n) ram r ks steps states AtStop (stopped none (eqb-true _ _ h)))
 
   end : (ram : List ℕ) (r : Registers) (ks : List ℕ) (steps states : ℕ) (t : Bool) → eqb r.pc stop ≡ t
-      → From zero ram r ks steps states (routineFrom b rom stop zero ram r ks steps states)
-  unfolding routineFrom
+      → From zero ram r ks steps states (routine_from b rom stop zero ram r ks steps states)
+  unfolding routine_from
   end ram r ks steps states true h = start zero ram r ks steps states h
   end ram r ks steps states false h = rw h (at_once zero ram r ks steps states Spent (spent none (eqb-false _ _ h) refl))
 
   middle : (n : ℕ) (ram : List ℕ) (r : Registers) (ks : List ℕ) (steps states : ℕ)
-      → ((m : List ℕ) (q : Registers) (xs : List ℕ) (c s : ℕ) → From n m q xs c s (routineFrom b rom stop n m q xs c s)) → (t : Bool) → eqb r.pc stop ≡ t
-      → From (suc n) ram r ks steps states (routineFrom b rom stop (suc n) ram r ks steps states)
+      → ((m : List ℕ) (q : Registers) (xs : List ℕ) (c s : ℕ) → From n m q xs c s (routine_from b rom stop n m q xs c s)) → (t : Bool) → eqb r.pc stop ≡ t
+      → From (suc n) ram r ks steps states (routine_from b rom stop (suc n) ram r ks steps states)
   middle n ram r ks steps states rest true h = start (suc n) ram r ks steps states h
   middle n ram r ks steps states rest false h = turn n ram r steps states (eqb-false _ _ h) ks (λ xs. rest _ _ xs _ _) h _ refl
 
   from : (left : ℕ) (ram : List ℕ) (r : Registers) (ks : List ℕ) (steps states : ℕ)
-      → From left ram r ks steps states (routineFrom b rom stop left ram r ks steps states)
+      → From left ram r ks steps states (routine_from b rom stop left ram r ks steps states)
   from zero ram r ks steps states = end ram r ks steps states _ refl
   from (suc n) ram r ks steps states = middle n ram r ks steps states (from n) _ refl
 

@@ -25,7 +25,7 @@ use Rattle.decoder.specs.MirrorDecode.{decode_of}
 use Rattle.step.specs.Step.{After, good_pc, step_of}
 use Rattle.step.specs.Processor.{Calling}
 use Rattle.step.proofs.Laws.{Kept, step_is, step_refused, fetch_keeps}
-use Rattle.routine.specs.Routine.{routined, told, Turn, on, goes_home, leaves, pushing, returning, turn_by, turn_of, taken, onward, routineFrom}
+use Rattle.routine.specs.Routine.{routined, told, Turn, on, goes_home, leaves, pushing, returning, turn_by, turn_of, taken, onward, routine_from}
 use Rattle.routine.specs.MirrorTurn.{seen_in, seen_at, completes_in, ninth_in, stays, made, pushed, came_back, returned_to, followed, turned_by, Left, left, turn_in}
 use Rattle.routine.specs.declared.Ending.{Ending}
 use Rattle.routine.specs.declared.Ending.TheVariants.{Halted, Returned, Ninth, Elsewhere}
@@ -65,10 +65,10 @@ module _ (b : Board) (rom : List ℕ) (stop : ℕ) (n : ℕ) (ram : List ℕ) (r
   pub data View : Left → Type 0 where
     goes_on : (t : Turned) (m : List ℕ) (after : List ℕ) → Carries t.kept t.count after → t.steps ≡ 1 → t.going ≡ On → length m ≡ length ram
         → good_board b (length rom) (length m) && good_pc t.regs.pc ≡ true
-        → routineFrom b rom stop (suc n) ram r ks steps states ≡ routineFrom b rom stop n m t.regs after (steps + 1) (states + t.states) → View (left t m)
+        → routine_from b rom stop (suc n) ram r ks steps states ≡ routine_from b rom stop n m t.regs after (steps + 1) (states + t.states) → View (left t m)
     ends : (t : Turned) (m : List ℕ) (after : List ℕ) (why : Ending) → Carries t.kept t.count after → t.steps ≤ 1 → t.going ≡ Ends why
         → length m ≡ length ram
-        → routineFrom b rom stop (suc n) ram r ks steps states ≡ routined (told t.regs after (steps + t.steps) (states + t.states) why) m
+        → routine_from b rom stop (suc n) ram r ks steps states ≡ routined (told t.regs after (steps + t.steps) (states + t.states) why) m
         → View (left t m)
 
   module _ (good : good_board b (length rom) (length ram) && good_pc r.pc ≡ true) (away : r.pc ≡ stop → ⊥) (kept : List ℕ) (count : ℕ) (c : Carries kept count ks) where
@@ -89,16 +89,16 @@ module _ (b : Board) (rom : List ℕ) (stop : ℕ) (n : ℕ) (ram : List ℕ) (r
     -- ---- the definition, by the step's outcome and the turn
 
     refused_from : (f : Refusal) → stepped.answer.outcome ≡ Refused f
-        → routineFrom b rom stop (suc n) ram r ks steps states ≡ routined (told r ks steps states (Halted f)) ram
-    unfolding routineFrom onward
+        → routine_from b rom stop (suc n) ram r ks steps states ≡ routined (told r ks steps states (Halted f)) ram
+    unfolding routine_from onward
     refused_from f o = rw (ne_eqb _ _ away, o)
 
     done_from : stepped.answer.outcome ≡ Done → (t : Turn) → turn_of decoded r.pc ks stepped.answer.regs.pc ≡ t
-        → routineFrom b rom stop (suc n) ram r ks steps states
-        ≡ taken t (λ after. routineFrom b rom stop n stepped.mem stepped.answer.regs after (steps + 1) (states + stepped.answer.states))
+        → routine_from b rom stop (suc n) ram r ks steps states
+        ≡ taken t (λ after. routine_from b rom stop n stepped.mem stepped.answer.regs after (steps + 1) (states + stepped.answer.states))
         (routined (told stepped.answer.regs ks (steps + 1) (states + stepped.answer.states) Returned) stepped.mem)
         (λ why. routined (told r ks steps states why) ram)
-    unfolding routineFrom onward
+    unfolding routine_from onward
     done_from o t e = rw (ne_eqb _ _ away, o, e)
 
     kept_good : stepped.answer.outcome ≡ Done → good_board b (length rom) (length stepped.mem) && good_pc stepped.answer.regs.pc ≡ true
@@ -113,7 +113,7 @@ module _ (b : Board) (rom : List ℕ) (stop : ℕ) (n : ℕ) (ram : List ℕ) (r
     goes after kept' count' k o t e =
         rw e (goes_on (made stepped.answer kept' count' On) stepped.mem after k refl refl (after_it o).length_stays (kept_good o) (done_from o (on after) t))
 
-    stops : (why : Ending) → routineFrom b rom stop (suc n) ram r ks steps states ≡ routined (told r ks steps states why) ram
+    stops : (why : Ending) → routine_from b rom stop (suc n) ram r ks steps states ≡ routined (told r ks steps states why) ram
         → turn_in b rom ram r kept count ≡ left (stays r kept count why) ram → View (turn_in b rom ram r kept count)
     stops why f e = rw e (ends (stays r kept count why) ram ks why c (omega arith) refl refl (rw (add-zero steps, add-zero states) f))
 

@@ -79,14 +79,14 @@ onward (Refused f) go end = end (Halted f)
 
 module _ (b : Board) (rom : List ℕ) (stop : ℕ) where
   -- with n steps of the budget left and the addresses ks kept, after so many steps and states: first the stop address, then the spent budget, then a step
-  unfoldable pub routineFrom : ℕ → List ℕ → Registers → List ℕ → ℕ → ℕ → Routined
-  routineFrom zero ram r ks steps states =
+  unfoldable pub routine_from : ℕ → List ℕ → Registers → List ℕ → ℕ → ℕ → Routined
+  routine_from zero ram r ks steps states =
       cond (eqb r.pc stop) (routined (told r ks steps states AtStop) ram) (routined (told r ks steps states Spent) ram)
-  routineFrom (suc n) ram r ks steps states =
+  routine_from (suc n) ram r ks steps states =
       cond (eqb r.pc stop) (routined (told r ks steps states AtStop) ram)
       (onward (step_of b rom ram r).answer.outcome
       (taken (turn_of (decode_of r.pc (drop r.pc rom)) r.pc ks (step_of b rom ram r).answer.regs.pc)
-      (λ after. routineFrom n (step_of b rom ram r).mem (step_of b rom ram r).answer.regs after (steps + 1)
+      (λ after. routine_from n (step_of b rom ram r).mem (step_of b rom ram r).answer.regs after (steps + 1)
       (states + (step_of b rom ram r).answer.states))
       (routined (told (step_of b rom ram r).answer.regs ks (steps + 1) (states + (step_of b rom ram r).answer.states) Returned)
       (step_of b rom ram r).mem)
@@ -97,5 +97,5 @@ module _ (b : Board) (rom : List ℕ) (stop : ℕ) where
 unfoldable pub routine_of : Board → List ℕ → List ℕ → Registers → ℕ → ℕ → Routined
 routine_of b rom ram r stop budget =
     cond (ltb 1000000 budget) (routined (told r [] 0 0 (Halted BudgetTooLarge)) ram)
-    (cond (good_board b (length rom) (length ram) && good_pc r.pc) (routineFrom b rom stop budget ram r [] 0 0)
+    (cond (good_board b (length rom) (length ram) && good_pc r.pc) (routine_from b rom stop budget ram r [] 0 0)
     (routined (told r [] 0 0 (Halted BadBoard)) ram))

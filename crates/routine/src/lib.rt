@@ -7,7 +7,7 @@ ghost use Rattle.codes.specs.States.{goes_of};
 ghost use Rattle.memory.specs.Board.{good_board};
 ghost use Rattle.step.specs.Step.{good_pc};
 ghost use Rattle.routine.specs.MirrorTurn.{seen_in, seen_at, ninth_in, stays, made, pushed, came_back, returned_to, followed, turned_by, left, turn_in};
-ghost use Rattle.routine.specs.Routine.{routined, told, routineFrom, routine_of};
+ghost use Rattle.routine.specs.Routine.{routined, told, routine_from, routine_of};
 
 use codes::{Decoded, Goes, Instruction};
 use memory::Board;
@@ -245,7 +245,7 @@ fn repeat(
     budget: u32,
 ) -> RoutineAnswer
     requires { (budget ≤ 1000000) × (good_board b (length rom.now) (length ram.old) && good_pc r.pc ≡ true) }
-    ensures { routined result ram.new ≡ routineFrom b rom.now stop budget ram.old r [] 0 0 }
+    ensures { routined result ram.new ≡ routine_from b rom.now stop budget ram.old r [] 0 0 }
 {
     let mut q = r;
     let mut kept: [u32; 8] = [0; 8];

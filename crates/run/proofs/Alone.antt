@@ -10,11 +10,11 @@ use Rattle.registers.specs.declared.Registers.{Registers}
 use Rattle.memory.specs.declared.Board.{Board}
 use Rattle.step.specs.Step.{step_of}
 use Rattle.run.specs.Run.{run_from, run_of}
-use Rattle.run.specs.MirrorAlong.{strays_of, alongFrom, start_of, fewer_of}
+use Rattle.run.specs.MirrorAlong.{strays_of, along_from, start_of, fewer_of}
 
 module _ (b : Board) (rom : List ℕ) (stop : ℕ) where
-  from_alone : (n : ℕ) (ram : List ℕ) (r : Registers) (steps states : ℕ) → alongFrom b rom stop [] n ram r steps states ≡ run_from b rom stop n ram r steps states
-  unfolding alongFrom run_from strays_of
+  from_alone : (n : ℕ) (ram : List ℕ) (r : Registers) (steps states : ℕ) → along_from b rom stop [] n ram r steps states ≡ run_from b rom stop n ram r steps states
+  unfolding along_from run_from strays_of
   from_alone zero ram r steps states = refl
   from_alone (suc n) ram r steps states =
       rw (from_alone n (step_of b rom ram r).mem (step_of b rom ram r).answer.regs (steps + 1) (states + (step_of b rom ram r).answer.states))

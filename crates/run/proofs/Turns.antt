@@ -28,7 +28,7 @@ use Rattle.turns.specs.MirrorTurn.{told_as, told_in, touched_by}
 use Rattle.turns.proofs.Laws.{told_done, told_refused}
 use Rattle.run.specs.MirrorKept.{Means}
 use Rattle.run.specs.Run.{ran, told}
-use Rattle.run.specs.MirrorAlong.{strays_of, alongFrom}
+use Rattle.run.specs.MirrorAlong.{strays_of, along_from}
 use Rattle.run.specs.MirrorTrail.{trail_at}
 use Rattle.run.specs.declared.Ending.TheVariants.{AtStop, Spent, Halted}
 
@@ -136,16 +136,16 @@ pc_fits good pc h =
     (ltb-true pc 16777216 l, eqb-true (pc % 2) 0 e)
 
 module _ (b : Board) (rom : List ℕ) (stop : ℕ) (w ram : List ℕ) (r : Registers) (steps states : ℕ) where
-  at_stop : (n : ℕ) → eqb r.pc stop ≡ true → alongFrom b rom stop w n ram r steps states ≡ ran (told r steps states AtStop) ram
-  unfolding alongFrom
+  at_stop : (n : ℕ) → eqb r.pc stop ≡ true → along_from b rom stop w n ram r steps states ≡ ran (told r steps states AtStop) ram
+  unfolding along_from
   at_stop zero e = rw e
   at_stop (suc n) e = rw e
 
-  pub stops : (n : ℕ) → r.pc ≡ stop → alongFrom b rom stop w n ram r steps states ≡ ran (told r steps states AtStop) ram
+  pub stops : (n : ℕ) → r.pc ≡ stop → along_from b rom stop w n ram r steps states ≡ ran (told r steps states AtStop) ram
   stops n h = at_stop n (eq-eqb _ _ h)
 
-  pub spent : (budget : ℕ) → (r.pc ≡ stop → ⊥) → steps ≡ budget → alongFrom b rom stop w (budget - steps) ram r steps states ≡ ran (told r steps states Spent) ram
-  unfolding alongFrom
+  pub spent : (budget : ℕ) → (r.pc ≡ stop → ⊥) → steps ≡ budget → along_from b rom stop w (budget - steps) ram r steps states ≡ ran (told r steps states Spent) ram
+  unfolding along_from
   spent budget h e = let z : budget - steps ≡ zero = omega arith in rw (z, ne_eqb _ _ h)
 
   -- a step of the budget is left, and PC is not at the stop address
@@ -153,8 +153,8 @@ module _ (b : Board) (rom : List ℕ) (stop : ℕ) (w ram : List ℕ) (r : Regis
     left : budget - steps ≡ suc (budget - (steps + 1))
     left = omega arith
 
-    pub strayed : strays_of w steps r.pc r.condition states ≡ true → alongFrom b rom stop w (budget - steps) ram r steps states ≡ ran (told r steps states AtStop) ram
-    unfolding alongFrom
+    pub strayed : strays_of w steps r.pc r.condition states ≡ true → along_from b rom stop w (budget - steps) ram r steps states ≡ ran (told r steps states AtStop) ram
+    unfolding along_from
     strayed h = rw (left, ne_eqb _ _ off, h)
 
   module _ (good : good_start b rom ram r ≡ true) (a : StepAnswer) (m : List ℕ) (e : after a m ≡ fetch_of r b rom ram) where
@@ -176,10 +176,10 @@ module _ (b : Board) (rom : List ℕ) (stop : ℕ) (w ram : List ℕ) (r : Regis
 
     module _ (budget : ℕ) (off : r.pc ≡ stop → ⊥) (le : steps ≤ budget) (ne : steps ≡ budget → ⊥) (on : strays_of w steps r.pc r.condition states ≡ false) where
       pub goes_on : a.outcome ≡ Done
-          → alongFrom b rom stop w (budget - steps) ram r steps states ≡ alongFrom b rom stop w (budget - (steps + 1)) m a.regs (steps + 1) (states + a.states)
-      unfolding alongFrom
+          → along_from b rom stop w (budget - steps) ram r steps states ≡ along_from b rom stop w (budget - (steps + 1)) m a.regs (steps + 1) (states + a.states)
+      unfolding along_from
       goes_on d = rw (left budget off le ne, ne_eqb _ _ off, on, step_is, d)
 
-      pub refused : (f : Refusal) → a.outcome ≡ Refused f → alongFrom b rom stop w (budget - steps) ram r steps states ≡ ran (told r steps states (Halted f)) m
-      unfolding alongFrom
+      pub refused : (f : Refusal) → a.outcome ≡ Refused f → along_from b rom stop w (budget - steps) ram r steps states ≡ ran (told r steps states (Halted f)) m
+      unfolding along_from
       refused f d = rw (left budget off le ne, ne_eqb _ _ off, on, step_is, d)

@@ -44,14 +44,14 @@ pub record Covers (w : List ℕ) (n : ℕ) : Type 0 where
 
 -- `run_from`, which also stops before a step whose record differs
 module _ (b : Board) (rom : List ℕ) (stop : ℕ) (w : List ℕ) where
-  unfoldable pub alongFrom : ℕ → List ℕ → Registers → ℕ → ℕ → Ran
-  alongFrom zero ram r steps states =
+  unfoldable pub along_from : ℕ → List ℕ → Registers → ℕ → ℕ → Ran
+  along_from zero ram r steps states =
       cond (eqb r.pc stop) (ran (told r steps states AtStop) ram) (ran (told r steps states Spent) ram)
-  alongFrom (suc n) ram r steps states =
+  along_from (suc n) ram r steps states =
       cond (eqb r.pc stop) (ran (told r steps states AtStop) ram)
       (cond (strays_of w steps r.pc r.condition states) (ran (told r steps states AtStop) ram)
       (onward (step_of b rom ram r).answer.outcome
-      (alongFrom n (step_of b rom ram r).mem (step_of b rom ram r).answer.regs (steps + 1)
+      (along_from n (step_of b rom ram r).mem (step_of b rom ram r).answer.regs (steps + 1)
       (states + (step_of b rom ram r).answer.states))
       (λ f. ran (told r steps states (Halted f)) (step_of b rom ram r).mem)))
 
@@ -59,7 +59,7 @@ module _ (b : Board) (rom : List ℕ) (stop : ℕ) (w : List ℕ) where
 unfoldable pub start_of : Board → List ℕ → List ℕ → Registers → ℕ → ℕ → List ℕ → ℕ → Ran
 start_of b rom ram r stop budget w states =
     cond (ltb 1000000 budget) (ran (told r 0 states (Halted BudgetTooLarge)) ram)
-    (cond (good_start b rom ram r) (alongFrom b rom stop w budget ram r 0 states)
+    (cond (good_start b rom ram r) (along_from b rom stop w budget ram r 0 states)
     (ran (told r 0 states (Halted BadBoard)) ram))
 
 abbrev pub fewer_of : ℕ → ℕ → ℕ

@@ -4,7 +4,7 @@
 ghost use Rattle.std.specs.Prelude.{◌≡◌, true, ◌&&◌, ◌%◌, ◌≤◌};
 ghost use Rattle.refusal.specs.declared.Outcome.TheVariants.{Done};
 ghost use Rattle.step.specs.Step.{after, answered, good_start, step_of};
-ghost use Rattle.run.specs.MirrorAlong.{Covers, alongFrom, start_of, fewer_of, along_of};
+ghost use Rattle.run.specs.MirrorAlong.{Covers, along_from, start_of, fewer_of, along_of};
 ghost use Rattle.run.specs.MirrorKept.{Keeps};
 ghost use Rattle.run.specs.MirrorSingle.{outcome_of};
 ghost use Rattle.run.specs.MirrorTrail.{traced, trail_at, Tells};
@@ -78,7 +78,7 @@ fn repeat(
     before: u32,
 ) -> Traced
     requires { (budget ≤ 1000000) × (good_start b rom.now ram.old r ≡ true) × Keeps rom.now lines.old × Covers records.now budget }
-    ensures did { ran result.answer ram.new ≡ alongFrom b rom.now stop records.now budget ram.old r 0 before }
+    ensures did { ran result.answer ram.new ≡ along_from b rom.now stop records.now budget ram.old r 0 before }
     ensures told { Tells b rom.now r result }
 {
     let mut er = r.er;

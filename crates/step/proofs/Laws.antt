@@ -43,8 +43,8 @@ use Rattle.moves.specs.Moves.{Stepped, stepped, step_over, loaded_of, load_of, s
 use Rattle.flow.specs.Targets.{next_of}
 use Rattle.decoder.specs.MirrorDecode.{decode_of}
 use Rattle.codes.specs.States.{goes_of}
-use Rattle.step.specs.Follow.{aim_of, followOf}
-use Rattle.step.specs.Step.{transferOf, effect_of, After, after, answered, stays, finish_of, carry_of, obey_of, act_of, fetch_of, good_pc, good_start, step_of}
+use Rattle.step.specs.Follow.{aim_of, follow_of}
+use Rattle.step.specs.Step.{transfer_of, effect_of, After, after, answered, stays, finish_of, carry_of, obey_of, act_of, fetch_of, good_pc, good_start, step_of}
 use Rattle.step.proofs.Range.{whole_stc, whole_ldc, whole_ccr, whole_alu, whole_inc_dec, whole_carried, whole_adds_subs, whole_added, whole_shift, whole_unary, whole_put, whole_multiply, whole_over, whole_took}
 use Rattle.arith.specs.declared.Width.{Width}
 use Rattle.arith.specs.declared.Width.TheVariants.{Byte, Word, Long}
@@ -118,8 +118,8 @@ module _ (r : Registers) (b : Board) (rom ram : List ℕ) where
   gives_view give index (AtEr e) = gave_view give index _ _ (λ f h. read_number Byte b rom ram _ f h)
   gives_view give index (AtAbs a) = gave_view give index _ _ (λ f h. read_number Byte b rom ram _ f h)
 
-  transfer_view : (next : ℕ) (dir : Dir) (w : Width) (p : Place) (d : ℕ) → Done-or-not r ram (transferOf next r b rom ram dir w p d)
-  unfolding transferOf load_of store_of
+  transfer_view : (next : ℕ) (dir : Dir) (w : Width) (p : Place) (d : ℕ) → Done-or-not r ram (transfer_of next r b rom ram dir w p d)
+  unfolding transfer_of load_of store_of
   transfer_view next Load w p d = load_view w d (step_over Up w p r) (whole_over Up w p r) _ (λ f e. read_number w b rom ram _ f e)
   transfer_view next Store w p d = store_view w _ _ _ (λ h. whole_condition _ _ (whole_over Down w p r h)) _ refl
 
@@ -156,8 +156,8 @@ module _ (r : Registers) (b : Board) (rom ram : List ℕ) where
   aim_five (Direct a) f h = let z : ◌≡◌ {A = ℕ} 0 1 = cc in absurd (omega arith)
   aim_five (Vector a) f h = read_number Long b rom ram a f h
 
-  follow_five : (g : Goes) (next : ℕ) (f : Refusal) → followOf r b rom ram g next ≡ NotRead f → number_of f ≡ 5
-  unfolding followOf
+  follow_five : (g : Goes) (next : ℕ) (f : Refusal) → follow_of r b rom ram g next ≡ NotRead f → number_of f ≡ 5
+  unfolding follow_of
   follow_five Onward next f h = let z : ◌≡◌ {A = ℕ} 0 1 = cc in absurd (omega arith)
   follow_five (Branches c reach) next f h = let z : ◌≡◌ {A = ℕ} 0 1 = cc in absurd (omega arith)
   follow_five (Jumps t) next f h = aim_five t f h
@@ -172,17 +172,17 @@ module _ (r : Registers) (b : Board) (rom ram : List ℕ) where
     by_data : (i : Instruction) (n : ℕ) (f : Refusal) → ltb r.pc (length rom) ≡ true → decode_of r.pc (drop r.pc rom) ≡ Code i n → ByData f
         → Comes (after (stays r f) ram)
     completes : (i : Instruction) (n p : ℕ) (q : Registers) (m : List ℕ) → ltb r.pc (length rom) ≡ true → decode_of r.pc (drop r.pc rom) ≡ Code i n
-        → followOf r b rom ram (goes_of i) (next_of r.pc n) ≡ Value p → effect_of (next_of r.pc n) r b rom ram i ≡ stepped (did q) m
+        → follow_of r b rom ram (goes_of i) (next_of r.pc n) ≡ Value p → effect_of (next_of r.pc n) r b rom ram i ≡ stepped (did q) m
         → length m ≡ length ram → (Whole r → Whole q) → Comes (after (answered (with_pc q p) (states_at b.site r i) Done) m)
 
   module _ (i : Instruction) (n : ℕ) (l : ltb r.pc (length rom) ≡ true) (d : decode_of r.pc (drop r.pc rom) ≡ Code i n) where
-    finished : (p : ℕ) → followOf r b rom ram (goes_of i) (next_of r.pc n) ≡ Value p → (s : Stepped) → effect_of (next_of r.pc n) r b rom ram i ≡ s
+    finished : (p : ℕ) → follow_of r b rom ram (goes_of i) (next_of r.pc n) ≡ Value p → (s : Stepped) → effect_of (next_of r.pc n) r b rom ram i ≡ s
         → Done-or-not r ram s → Comes (after (finish_of s.effect.outcome r s.effect.regs p (states_at b.site r i)) s.mem)
     unfolding finish_of
     finished p g s e (done q m k h) = completes i n p q m l d g e k h
     finished p g s e (not_done f h) = by_data i n f l d h
 
-    carried : (g : Got) → followOf r b rom ram (goes_of i) (next_of r.pc n) ≡ g → Comes (carry_of g i (next_of r.pc n) r b rom ram)
+    carried : (g : Got) → follow_of r b rom ram (goes_of i) (next_of r.pc n) ≡ g → Comes (carry_of g i (next_of r.pc n) r b rom ram)
     unfolding carry_of
     carried (Value p) e = finished p e _ refl (effect_view (next_of r.pc n) i)
     carried (NotRead f) e = by_data i n f l d (inl (follow_five (goes_of i) (next_of r.pc n) f e))

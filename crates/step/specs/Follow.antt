@@ -39,10 +39,10 @@ module _ (r : Registers) (b : Board) (rom ram : List ℕ) where
   aim_of (Vector a) = read_of Long b rom ram a
 
   -- the target is taken before anything is pushed; RTS reads the longword at ER7
-  unfoldable pub followOf : Goes → ℕ → Got
-  followOf Onward next = Value next
-  followOf (Branches c reach) next = Value (cond (holds_of c r.condition) (target_of next reach) next)
-  followOf (Jumps target) next = aim_of target
-  followOf (CallsNear reach) next = Value (target_of next reach)
-  followOf (Calls target) next = aim_of target
-  followOf Returns next = read_of Long b rom ram (part_of Long r 7)
+  unfoldable pub follow_of : Goes → ℕ → Got
+  follow_of Onward next = Value next
+  follow_of (Branches c reach) next = Value (cond (holds_of c r.condition) (target_of next reach) next)
+  follow_of (Jumps target) next = aim_of target
+  follow_of (CallsNear reach) next = Value (target_of next reach)
+  follow_of (Calls target) next = aim_of target
+  follow_of Returns next = read_of Long b rom ram (part_of Long r 7)

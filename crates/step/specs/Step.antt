@@ -20,7 +20,7 @@ use Rattle.moves.specs.Moves.{Stepped, stepped, load_of, store_of, push_of, popp
 use Rattle.flow.specs.Targets.{next_of}
 use Rattle.decoder.specs.MirrorDecode.{decode_of}
 use Rattle.codes.specs.States.{goes_of}
-use Rattle.step.specs.Follow.{followOf}
+use Rattle.step.specs.Follow.{follow_of}
 use Rattle.step.specs.declared.StepAnswer.{StepAnswer}
 use Rattle.codes.specs.declared.Dir.{Dir}
 use Rattle.codes.specs.declared.Dir.TheVariants.{Load, Store}
@@ -33,9 +33,9 @@ use Rattle.codes.specs.declared.Decoded.TheVariants.{Code, NoCode}
 
 -- what an instruction does; `next` is the address of the next one, and PC is none of it
 module _ (next : ℕ) (r : Registers) (b : Board) (rom ram : List ℕ) where
-  unfoldable pub transferOf : Dir → Width → Place → ℕ → Stepped
-  transferOf Load w p d = stepped (load_of w p d r b rom ram) ram
-  transferOf Store w p s = store_of w p s r b ram
+  unfoldable pub transfer_of : Dir → Width → Place → ℕ → Stepped
+  transfer_of Load w p d = stepped (load_of w p d r b rom ram) ram
+  transfer_of Store w p s = store_of w p s r b ram
 
   unfoldable pub effect_of : Instruction → Stepped
   effect_of Nop = stepped (did r) ram
@@ -52,7 +52,7 @@ module _ (next : ℕ) (r : Registers) (b : Board) (rom ram : List ℕ) where
   effect_of (Divide sign h s d) = stepped (divide_of sign h s d r) ram
   effect_of (Takes take index spot) = stepped (takes_of take index spot r b rom ram) ram
   effect_of (Gives give index spot) = gives_of give index spot r b rom ram
-  effect_of (Move dir w p d) = transferOf dir w p d
+  effect_of (Move dir w p d) = transfer_of dir w p d
   effect_of (Bcc c reach) = stepped (did r) ram
   effect_of (Jmp target) = stepped (did r) ram
   effect_of (Bsr reach) = push_of next r b ram
@@ -89,7 +89,7 @@ carry_of (NotRead f) i next r b rom ram = after (stays r f) ram
 unfoldable pub obey_of : Instruction → ℕ → Registers → Board → List ℕ → List ℕ → After
 obey_of i n r b rom ram =
     let next = next_of r.pc n in
-    carry_of (followOf r b rom ram (goes_of i) next) i next r b rom ram
+    carry_of (follow_of r b rom ram (goes_of i) next) i next r b rom ram
 
 unfoldable pub act_of : Decoded → Registers → Board → List ℕ → List ℕ → After
 act_of (Code i n) r b rom ram = obey_of i n r b rom ram

@@ -35,8 +35,8 @@ use Rattle.codes.specs.declared.Instruction.{Instruction}
 use Rattle.codes.specs.declared.Instruction.TheVariants.{Move, Jmp, Bsr, Jsr, Rts}
 use Rattle.codes.specs.declared.Decoded.{Decoded}
 use Rattle.codes.specs.declared.Decoded.TheVariants.{Code}
-use Rattle.step.specs.Follow.{followOf}
-use Rattle.step.specs.Step.{after, effect_of, transferOf, carry_of, obey_of, act_of}
+use Rattle.step.specs.Follow.{follow_of}
+use Rattle.step.specs.Step.{after, effect_of, transfer_of, carry_of, obey_of, act_of}
 use Rattle.turns.specs.MirrorTurn.{ended_of, told_in, TurnsOn, touched_by}
 use Rattle.turns.proofs.Laws.{ended_told, ended_taking}
 use Rattle.entry.specs.Entry.{move_by}
@@ -73,14 +73,14 @@ module _ (er er' ram ram' : List ℕ) (pc : ℕ) (f : Condition) (b : Board) (e 
     -- @ER+ and @-ER
     pub step_loads : (r d n : ℕ) → x ≡ sum_of b.site (made_at Load w (part_in Long er r)) → effect_in er' pc e ≡ load_of w (Step r) d (lent er pc f) b rom ram
         → TurnsOn (Code (Move Load w (Step r) d) n) er er' pc f b rom ram ram (ended_of e.outcome e.condition (next_of pc n) (move_base w (Step r) + x))
-    unfolding effect_of transferOf followOf base_of address_of part_of
+    unfolding effect_of transfer_of follow_of base_of address_of part_of
     step_loads r d n h q =
         ended_taking (Move Load w (Step r) d) n (next_of pc n) er pc f b rom ram _ er' ram e
         (λ o. rw h (sym (states_once b.site (lent er pc f) (Move Load w (Step r) d) (touch Load w (Step r)) refl))) refl (ap (λ (y : Effect). stepped y ram) q)
 
     pub step_stores : (r d n : ℕ) → x ≡ sum_of b.site (made_at Load w (part_in Long er' r)) → stepped (effect_in er' pc e) ram' ≡ store_of w (Step r) d (lent er pc f) b ram
         → TurnsOn (Code (Move Store w (Step r) d) n) er er' pc f b rom ram ram' (ended_of e.outcome e.condition (next_of pc n) (move_base w (Step r) + x))
-    unfolding effect_of transferOf followOf base_of
+    unfolding effect_of transfer_of follow_of base_of
     step_stores r d n h q =
         ended_taking (Move Store w (Step r) d) n (next_of pc n) er pc f b rom ram _ er' ram' e
         (λ o. rw (h, stored_where er er' ram ram' pc f b e o w r d q) (sym (states_once b.site (lent er pc f) (Move Store w (Step r) d) (touch Store w (Step r)) refl)))
@@ -90,20 +90,20 @@ module _ (er er' ram ram' : List ℕ) (pc : ℕ) (f : Condition) (b : Board) (e 
     module _ (a : Aim) (h : x ≡ sum_of b.site (made_at Load w a.address)) where
       pub aim_loads : effect_in er' pc e ≡ load_of w (Abs24 a.address) a.register (lent er pc f) b rom ram
           → after (told_in er' pc (ended_of e.outcome e.condition a.next (a.states + x))) ram ≡ moved_at Load w a (lent er pc f) b rom ram
-      unfolding effect_of transferOf moved_at
+      unfolding effect_of transfer_of moved_at
       aim_loads q =
           ended_told (lent er pc f) ram er' ram pc e a.next (a.states + x) _ (λ o. rw h) a.next b rom (Move Load w (Abs24 a.address) a.register)
           (ap (λ (y : Effect). stepped y ram) q)
 
       pub aim_stores : stepped (effect_in er' pc e) ram' ≡ store_of w (Abs24 a.address) a.register (lent er pc f) b ram
           → after (told_in er' pc (ended_of e.outcome e.condition a.next (a.states + x))) ram' ≡ moved_at Store w a (lent er pc f) b rom ram
-      unfolding effect_of transferOf moved_at
+      unfolding effect_of transfer_of moved_at
       aim_stores q =
           ended_told (lent er pc f) ram er' ram' pc e a.next (a.states + x) _ (λ o. rw h) a.next b rom (Move Store w (Abs24 a.address) a.register) q
 
 -- a call, where n is its states without the push
 pub call_acts : (i : Instruction) (l to n : ℕ) (er : List ℕ) (pc : ℕ) (f : Condition) (b : Board) (rom ram : List ℕ)
-    → states_at b.site (lent er pc f) i ≡ n + push_cost b.site (lent er pc f) → followOf (lent er pc f) b rom ram (goes_of i) (next_of pc l) ≡ Value to
+    → states_at b.site (lent er pc f) i ≡ n + push_cost b.site (lent er pc f) → follow_of (lent er pc f) b rom ram (goes_of i) (next_of pc l) ≡ Value to
     → effect_of (next_of pc l) (lent er pc f) b rom ram i ≡ push_of (next_of pc l) (lent er pc f) b ram
     → finished (push_of (next_of pc l) (lent er pc f) b ram) (lent er pc f) to (n + push_cost b.site (lent er pc f)) ≡ act_of (Code i l) (lent er pc f) b rom ram
 unfolding act_of obey_of carry_of
@@ -122,7 +122,7 @@ module _ (dir : Dir) (w : Width) (er : List ℕ) (pc : ℕ) (f : Condition) (b :
 
   at_address : (g : Dir) (p : Place) (d n : ℕ) → ((way : Way) → step_over way w p (lent er pc f) ≡ lent er pc f)
       → moved_at g w (aim (address_of p (lent er pc f)) d (next_of pc n) (move_base w p)) (lent er pc f) b rom ram ≡ act_of (Code (Move g w p d) n) (lent er pc f) b rom ram
-  unfolding moved_at transferOf load_of store_of step_over address_of act_of obey_of carry_of followOf effect_of
+  unfolding moved_at transfer_of load_of store_of step_over address_of act_of obey_of carry_of follow_of effect_of
   at_address Load p d n h = rw (moved_takes Load p d h, h Up)
   at_address Store p d n h = rw (moved_takes Store p d h, h Down)
 

@@ -21,7 +21,7 @@ use Rattle.codes.specs.declared.Place.TheVariants.{Step, Abs24}
 use Rattle.codes.specs.declared.Instruction.{Instruction}
 use Rattle.codes.specs.declared.Decoded.{Decoded}
 use Rattle.codes.specs.declared.Decoded.TheVariants.{Code}
-use Rattle.step.specs.Step.{After, after, finish_of, transferOf}
+use Rattle.step.specs.Step.{After, after, finish_of, transfer_of}
 use Rattle.turns.specs.MirrorTurn.{told_in, TurnsOn}
 use Rattle.turns.specs.declared.Turn.{Turn}
 use Rattle.transfer.specs.declared.moving.Aim.{Aim}
@@ -76,7 +76,7 @@ move_base w p = 2 * move_fetches w p + pause_states (stepping p)
 -- a part moved from or to the address of a
 unfoldable pub moved_at : Dir → Width → Aim → Registers → Board → List ℕ → List ℕ → After
 moved_at dir w a r b rom ram =
-    finished (transferOf a.next r b rom ram dir w (Abs24 a.address) a.register) r a.next
+    finished (transfer_of a.next r b rom ram dir w (Abs24 a.address) a.register) r a.next
     (a.states + sum_of b.site (made_at Load w a.address))
 
 abbrev pub Transfers : Dir → Width → Aim → List ℕ → List ℕ → Condition → Board → List ℕ → List ℕ → List ℕ → Turn → Type 0

@@ -23,7 +23,7 @@ use Rattle.moves.proofs.States.{states_none}
 use Rattle.flow.specs.Targets.{next_of}
 use Rattle.codes.specs.Cycles.{touches_of}
 use Rattle.codes.specs.States.{states_of, goes_of}
-use Rattle.step.specs.Follow.{followOf}
+use Rattle.step.specs.Follow.{follow_of}
 use Rattle.step.specs.Step.{After, after, answered, stays, finish_of, effect_of, carry_of, obey_of, act_of}
 use Rattle.step.specs.declared.StepAnswer.{StepAnswer}
 use Rattle.step.proofs.Laws.{Done-or-not, done, not_done, effect_view}
@@ -64,7 +64,7 @@ module _ (r : Registers) (ram er' ram' : List ℕ) (pc : ℕ) (e : Deed) (p n m 
 -- The ways in which an arm of the executor ends, for an instruction i of n bytes. p is where PC goes; where i goes onward, that is the next address.
 module _ (i : Instruction) (n p : ℕ) (er : List ℕ) (pc : ℕ) (f : Condition) (b : Board) (rom ram : List ℕ) where
   abbrev pub Goes-to : Got → Type 0
-  Goes-to g = followOf (lent er pc f) b rom ram (goes_of i) (next_of pc n) ≡ g
+  Goes-to g = follow_of (lent er pc f) b rom ram (goes_of i) (next_of pc n) ≡ g
 
   abbrev pub Acts : List ℕ → List ℕ → Turn → Type 0
   Acts er' ram' t = TurnsOn (Code i n) er er' pc f b rom ram ram' t

@@ -60,8 +60,8 @@ use Rattle.codes.specs.declared.Instruction.TheVariants.{Nop, Stc, LdcReg, Ccr, 
 use Rattle.codes.specs.declared.Decoded.{Decoded}
 use Rattle.codes.specs.declared.Decoded.TheVariants.{Code, NoCode}
 use Rattle.step.specs.declared.StepAnswer.{StepAnswer}
-use Rattle.step.specs.Follow.{aim_of, followOf}
-use Rattle.step.specs.Step.{transferOf, effect_of, After, after, answered, stays, finish_of, carry_of, obey_of, act_of, fetch_of, good_start, step_of}
+use Rattle.step.specs.Follow.{aim_of, follow_of}
+use Rattle.step.specs.Step.{transfer_of, effect_of, After, after, answered, stays, finish_of, carry_of, obey_of, act_of, fetch_of, good_start, step_of}
 use Rattle.step.proofs.Laws.{step_refused}
 use Rattle.watch.specs.Watch.{listed, made_by, list_of, reached, Spared, Spares}
 use Rattle.watch.specs.Honest.{lies, AllLie, none, more, FirstOut, here, there, outside_of, ReadAt, at_first, later, Alike}
@@ -267,12 +267,12 @@ module _ (b : Board) (rom ram : List ℕ) (r : Registers) where
   carried g i next (one_out o) v = failed (out_left b rom ram _ o)
 
   -- what finds no target in memory, and what does
-  onward : (i : Instruction) (n p : ℕ) → followOf r b rom ram (goes_of i) (next_of r.pc n) ≡ Value p
+  onward : (i : Instruction) (n p : ℕ) → follow_of r b rom ram (goes_of i) (next_of r.pc n) ≡ Value p
       → EffectView (made_of r i) (effect_of (next_of r.pc n) r b rom ram i) → Honest (made_of r i) (obey_of i n r b rom ram)
   unfolding obey_of carry_of
   onward i n p e v = rw e (finished p (states_at b.site r i) v)
 
-  through : (i : Instruction) (n : ℕ) {xs ys : List Access} (g : Got) → followOf r b rom ram (goes_of i) (next_of r.pc n) ≡ g → ReadView b rom ram xs g
+  through : (i : Instruction) (n : ℕ) {xs ys : List Access} (g : Got) → follow_of r b rom ram (goes_of i) (next_of r.pc n) ≡ g → ReadView b rom ram xs g
       → EffectView ys (effect_of (next_of r.pc n) r b rom ram i) → made_of r i ≡ xs ++ ys → Honest (made_of r i) (obey_of i n r b rom ram)
   unfolding obey_of
   through i n g e u v m = rw (e, m) (carried g i (next_of r.pc n) u v)
@@ -281,7 +281,7 @@ module _ (b : Board) (rom ram : List ℕ) (r : Registers) where
   alone v = rw append-nil v
 
   honest : (i : Instruction) (n : ℕ) → Honest (made_of r i) (obey_of i n r b rom ram)
-  unfolding aim_of followOf effect_of transferOf load_of store_of push_of decimal_of divide_of takes_of takes_at gives_of gives_at address_of step_over
+  unfolding aim_of follow_of effect_of transfer_of load_of store_of push_of decimal_of divide_of takes_of takes_at gives_of gives_at address_of step_over
   honest Nop n = onward Nop n _ refl (quiet_effect _)
   honest (Stc d) n = onward (Stc d) n _ refl (quiet_effect _)
   honest (LdcReg s) n = onward (LdcReg s) n _ refl (quiet_effect _)
@@ -463,14 +463,14 @@ module _ (b : Board) (rom ram ram' : List ℕ) where
     carry_alike (NotRead f) i next e = refl
 
     -- by where it goes, and by what it does
-    alike : (i : Instruction) (n : ℕ) → followOf r b rom ram' (goes_of i) (next_of r.pc n) ≡ followOf r b rom ram (goes_of i) (next_of r.pc n)
+    alike : (i : Instruction) (n : ℕ) → follow_of r b rom ram' (goes_of i) (next_of r.pc n) ≡ follow_of r b rom ram (goes_of i) (next_of r.pc n)
         → (effect_of (next_of r.pc n) r b rom ram' i).effect ≡ (effect_of (next_of r.pc n) r b rom ram i).effect
         → (obey_of i n r b rom ram').answer ≡ (obey_of i n r b rom ram).answer
     unfolding obey_of
     alike i n f e = rw f (carry_alike _ i (next_of r.pc n) e)
 
     obey_alike : (i : Instruction) (n : ℕ) → Same (made_of r i) → (obey_of i n r b rom ram').answer ≡ (obey_of i n r b rom ram).answer
-    unfolding followOf aim_of effect_of transferOf load_of store_of push_of takes_of takes_at gives_of gives_at address_of step_over
+    unfolding follow_of aim_of effect_of transfer_of load_of store_of push_of takes_of takes_at gives_of gives_at address_of step_over
     obey_alike Nop n h = alike Nop n refl refl
     obey_alike (Stc d) n h = alike (Stc d) n refl refl
     obey_alike (LdcReg s) n h = alike (LdcReg s) n refl refl

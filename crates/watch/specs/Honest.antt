@@ -9,12 +9,12 @@ use Rattle.watch.specs.Watch.{reached}
 
 module _ (b : Board) (rom ram : List ℕ) where
   -- a read lies inside in either memory, a write in working memory
-  abbrev pub liesAs : Bool → ℕ → ℕ → Bool
-  liesAs false p n = inside 0 (length rom) p n || inside b.base (length ram) p n
-  liesAs true p n = inside b.base (length ram) p n
+  abbrev pub lies_as : Bool → ℕ → ℕ → Bool
+  lies_as false p n = inside 0 (length rom) p n || inside b.base (length ram) p n
+  lies_as true p n = inside b.base (length ram) p n
 
   abbrev pub lies : Access → Bool
-  lies x = liesAs x.write x.place x.bytes
+  lies x = lies_as x.write x.place x.bytes
 
   pub data AllLie : List Access → Type 0 where
     none : AllLie []

@@ -11,13 +11,12 @@ use Rattle.arith.specs.Widths.{bits_of}
 use Rattle.products.proofs.Machine.{flips, flipped}
 use Rattle.products.proofs.Signs.{bits_below, bits_above, not_below}
 use borrow.Author.Rules.{rules}
-use Rattle.products.proofs.bits.Lts as lts
 use Rattle.products.proofs.bits.Goals as goal
 
-below : (c : lts.Then-z-lt0) → lt_z c.args.z (pos 0) ≡ true
+below : (c : goal.Then-z-lt0) → lt_z c.args.z (pos 0) ≡ true
 below c = rw (to_z-of_z w64 c.args.z c.ranges.z) at c.if-z-lt0.true
 
-above : (c : lts.Else-z-lt0) → lt_z c.args.z (pos 0) ≡ false
+above : (c : goal.Else-z-lt0) → lt_z c.args.z (pos 0) ≡ false
 above c = rw (to_z-of_z w64 c.args.z c.ranges.z) at c.if-z-lt0.false
 
 pub overflow_sub-result-then-z-lt0 : goal.overflow_sub-result-then-z-lt0

@@ -13,11 +13,10 @@ use Rattle.products.proofs.Signs.{bits_lt}
 use Rattle.products.proofs.Forms.{form, divides}
 use Rattle.products.proofs.Divisions.{none_signed, over_signed, divided_signed}
 use borrow.Author.Rules.{rules}
-use Rattle.products.proofs.divxs.Lts as lts
 use Rattle.products.proofs.divxs.Goals as goal
 
 -- what the definition divides, and what the code holds of it
-module _ (c : lts.After-signed-y) where
+module _ (c : goal.After-signed-y) where
   abbrev start : tie.Start
   start = c
 
@@ -31,25 +30,25 @@ module _ (c : lts.After-signed-y) where
   y = signed_of k start.args.b
 
   dividend : to_z w64 (of_z w64 c.signed-x.result) ≡ x
-  dividend = rw (to_z-of_z w64 c.signed-x.result (record { sfits = c.signed-x.type-inv })) (cc (form start.args.h).wide)
+  dividend = rw (to_z-of_z w64 c.signed-x.result (record { sfits = c.signed-x.type_inv })) (cc (form start.args.h).wide)
 
   found : c.signed-y.result ≡ y
   found = cc (form start.args.h).narrow
 
   divisor : to_z w64 (of_z w64 c.signed-y.result) ≡ y
-  divisor = rw (to_z-of_z w64 c.signed-y.result (record { sfits = c.signed-y.type-inv })) found
+  divisor = rw (to_z-of_z w64 c.signed-y.result (record { sfits = c.signed-y.type_inv })) found
 
 
-some : (c : lts.Else-y-eq0) → y c ≡ pos 0 → ⊥
+some : (c : goal.Else-y-eq0) → y c ≡ pos 0 → ⊥
 some c e = c.if-y-eq0.false (ap (of_z w64) (found c ∙ e))
 
-quotient : (c : lts.After-quotient-q) → to_z w64 (of_z w64 c.quotient-q.result) ≡ quotient_of (x c) (y c)
-quotient c = let d = c in rw (to_z-of_z w64 c.quotient-q.result (record { sfits = c.quotient-q.type-inv }), c.quotient-q.ensures, dividend d, divisor d)
+quotient : (c : goal.After-quotient-q) → to_z w64 (of_z w64 c.quotient-q.result) ≡ quotient_of (x c) (y c)
+quotient c = let d = c in rw (to_z-of_z w64 c.quotient-q.result (record { sfits = c.quotient-q.type_inv }), c.quotient-q.ensures, dividend d, divisor d)
 
-fitting : (c : lts.After-has_room) → c.has_room.result ≡ fits_in (k c) (quotient_of (x c) (y c))
+fitting : (c : goal.After-has_room) → c.has_room.result ≡ fits_in (k c) (quotient_of (x c) (y c))
 fitting c = cc (quotient c, (form (start c).args.h).narrow)
 
-module _ (c : lts.After-bits-then-has_room) where
+module _ (c : goal.After-bits-then-has_room) where
   abbrev d : tie.After-signed2
   d = c
 
@@ -57,14 +56,14 @@ module _ (c : lts.After-bits-then-has_room) where
   low = cc (quotient c, (form (start d).args.h).narrow)
 
   high : c.bits-then-has_room.result ≡ bits_in (k d) (remainder_of (x d) (y d))
-  high = cc (to_z-of_z w64 c.remainder.result (record { sfits = c.remainder.type-inv }), dividend d, divisor d, (form (start d).args.h).narrow)
+  high = cc (to_z-of_z w64 c.remainder.result (record { sfits = c.remainder.type_inv }), dividend d, divisor d, (form (start d).args.h).narrow)
 
 
 pub returns-then-y-eq0 : goal.returns-then-y-eq0
 returns-then-y-eq0 c =
     let d = c in
     let s = (start d).args in
-    sym (none_signed (k d) (form s.h).twice (form s.h).twice_wide s.a s.b (rw (found d) at (no_bits w64 d.signed-y.result (record { sfits = d.signed-y.type-inv }) c.if-y-eq0.true)))
+    sym (none_signed (k d) (form s.h).twice (form s.h).twice_wide s.a s.b (rw (found d) at (no_bits w64 d.signed-y.result (record { sfits = d.signed-y.type_inv }) c.if-y-eq0.true)))
 
 pub quotient-q-requires : goal.quotient-q-requires
 quotient-q-requires c =

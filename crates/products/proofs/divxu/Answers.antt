@@ -7,10 +7,9 @@ use Rattle.products.specs.Products.{half_bits}
 use Rattle.products.proofs.Forms.{form}
 use Rattle.products.proofs.Divisions.{none, over, divided}
 use borrow.Author.Rules.{rules}
-use Rattle.products.proofs.divxu.Lts as lts
 use Rattle.products.proofs.divxu.Goals as goal
 
-module _ (c : lts.After-low_bits-q) where
+module _ (c : goal.After-low_bits-q) where
   power : c.power-m.result ≡ 2 ^ half_bits c.args.h
   power = cc (form c.args.h).narrow
 

@@ -4,13 +4,12 @@ use Rattle.products.specs.MirrorRoom.{Multiplies}
 use Rattle.products.specs.declared.Half.TheVariants.{Eight, Sixteen}
 use Rattle.products.proofs.Machine.{kept, found, narrows, kept_narrow, widens, found_narrow}
 use borrow.Author.Rules.{rules}
-use Rattle.products.proofs.product.Lts as lts
 use Rattle.products.proofs.product.Goals as goal
 
-byte : (c : lts.In-Eight) → Multiplies Eight c.args.x c.args.y
+byte : (c : goal.In-Eight) → Multiplies Eight c.args.x c.args.y
 byte c = rw c.in-Eight.is at c.requires
 
-word : (c : lts.In-Sixteen) → Multiplies Sixteen c.args.x c.args.y
+word : (c : goal.In-Sixteen) → Multiplies Sixteen c.args.x c.args.y
 word c = rw c.in-Sixteen.is at c.requires
 
 pub overflow_cast-result : goal.overflow_cast-result

@@ -6,13 +6,12 @@ use Rattle.products.specs.MirrorRoom.{Divides}
 use Rattle.products.specs.declared.Half.TheVariants.{Eight, Sixteen}
 use Rattle.products.proofs.Machine.{kept, found, narrows, kept_narrow, widens, found_narrow, some_bits, quotient_is}
 use borrow.Author.Rules.{rules}
-use Rattle.products.proofs.quotient.Lts as lts
 use Rattle.products.proofs.quotient.Goals as goal
 
-byte : (c : lts.In-Eight) → Divides Eight c.args.x c.args.y
+byte : (c : goal.In-Eight) → Divides Eight c.args.x c.args.y
 byte c = rw c.in-Eight.is at c.requires
 
-word : (c : lts.In-Sixteen) → Divides Sixteen c.args.x c.args.y
+word : (c : goal.In-Sixteen) → Divides Sixteen c.args.x c.args.y
 word c = rw c.in-Sixteen.is at c.requires
 
 pub overflow_cast-result : goal.overflow_cast-result

@@ -7,19 +7,18 @@ use Rattle.products.specs.MirrorRoom.{Divides}
 use Rattle.products.specs.declared.Half.TheVariants.{Eight, Sixteen}
 use Rattle.products.proofs.Machine.{kept, found, narrows, kept_narrow, widens, found_narrow, some_bits, remainder_is}
 use borrow.Author.Rules.{rules}
-use Rattle.products.proofs.remainder.Lts as lts
 use Rattle.products.proofs.remainder.Goals as goal
 
-byte : (c : lts.In-Eight) → Divides Eight c.args.x c.args.y
+byte : (c : goal.In-Eight) → Divides Eight c.args.x c.args.y
 byte c = rw c.in-Eight.is at c.requires
 
-word : (c : lts.In-Sixteen) → Divides Sixteen c.args.x c.args.y
+word : (c : goal.In-Sixteen) → Divides Sixteen c.args.x c.args.y
 word c = rw c.in-Sixteen.is at c.requires
 
-byte_rest : (c : lts.In-Eight) → SFits w32 (rem_z c.args.x c.args.y)
+byte_rest : (c : goal.In-Eight) → SFits w32 (rem_z c.args.x c.args.y)
 byte_rest c = sfits_le (mag_rem c.args.x c.args.y) (byte c).dividend
 
-word_rest : (c : lts.In-Sixteen) → SFits w64 (rem_z c.args.x c.args.y)
+word_rest : (c : goal.In-Sixteen) → SFits w64 (rem_z c.args.x c.args.y)
 word_rest c = sfits_le (mag_rem c.args.x c.args.y) (word c).dividend
 
 pub overflow_cast-result : goal.overflow_cast-result

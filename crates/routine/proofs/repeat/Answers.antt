@@ -8,19 +8,18 @@ use lib.ListN.{length}
 use borrow.Author.Rules.{rules}
 use Rattle.memory.specs.Board.{good_board}
 use Rattle.step.specs.Step.{good_pc}
-use Rattle.routine.specs.Routine.{routineFrom}
+use Rattle.routine.specs.Routine.{routine_from}
 use Rattle.routine.specs.declared.Ending.{Ending}
 use Rattle.routine.specs.declared.Going.TheVariants.{On, Ends}
 use Rattle.routine.proofs.Kept.{Carries, none_carried}
 use Rattle.routine.proofs.Loop.{Again, Last, stops, spent, few_steps, turn_again, turn_last}
 use Rattle.routine.proofs.turn.Reads as turn-reads
 use Rattle.routine.proofs.repeat.Reads as reads
-use Rattle.routine.proofs.repeat.Lts as lts
 use Rattle.routine.proofs.repeat.Goals as goal
 
 -- where a turn was made
 abbrev Met : Type 0
-Met = lts.After-turn (turn-reads.Asked, turn-reads.Learnt) reads.Pre reads.Post invariant_loop decreases_loop
+Met = goal.After-turn (turn-reads.Asked, turn-reads.Learnt) reads.Pre reads.Post invariant_loop decreases_loop
 
 -- a law of the turn, told what is known there
 one_step : (c : Met) → c.turn.result.steps ≤ 1

@@ -8,7 +8,7 @@ use lib.ListN.{length}
 use borrow.Author.Rules.{rules}
 use Rattle.memory.specs.Board.{good_board}
 use Rattle.step.specs.Step.{good_pc}
-use Rattle.routine.specs.Routine.{routineFrom}
+use Rattle.routine.specs.Routine.{routine_from}
 use Rattle.routine.specs.declared.Ending.{Ending}
 use Rattle.routine.specs.declared.Going.TheVariants.{On, Ends}
 use Rattle.routine.proofs.Kept.{Carries, none_carried}
@@ -23,7 +23,7 @@ use Rattle.routine.proofs.repeat.Given as goal
 abbrev pub invariant-loop-q : goal.invariant-loop-q
 invariant-loop-q l =
     (length l.ram ≡ length l.initial.ram) × (l.steps ≤ l.budget) × (l.states ≤ l.steps * 4294967295) × (good_board l.b (length l.rom) (length l.ram) && good_pc l.q.pc ≡ true)
-    × ((ks : List ℕ) × Carries l.kept l.count ks × (routineFrom l.b l.rom l.stop (l.budget - l.steps) l.ram l.q ks l.steps l.states ≡ routineFrom l.b l.rom l.stop l.budget l.initial.ram l.initial.q [] 0 0))
+    × ((ks : List ℕ) × Carries l.kept l.count ks × (routine_from l.b l.rom l.stop (l.budget - l.steps) l.ram l.q ks l.steps l.states ≡ routine_from l.b l.rom l.stop l.budget l.initial.ram l.initial.q [] 0 0))
 
 abbrev pub decreases-loop-q : goal.decreases-loop-q
 decreases-loop-q l = l.budget - l.steps

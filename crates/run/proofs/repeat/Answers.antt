@@ -17,7 +17,7 @@ use Rattle.turns.proofs.Laws.{refused_stays, no_turn}
 use Rattle.run.specs.MirrorTrail.{trail_at, Last}
 use Rattle.run.proofs.Quiet.{quiet_counted, quiet_turned, quiet_turned_long}
 use Rattle.run.specs.MirrorKept.{Keeps}
-use Rattle.run.specs.MirrorAlong.{alongFrom}
+use Rattle.run.specs.MirrorAlong.{along_from}
 use Rattle.run.proofs.Turns.{no_kind, outside, by_kind_lem, by_trail, step_is, as_done, not_stopped, not_halted, turn_done, turn_refused, same_registers, same_memory, pc_fits, stops, spent, strayed, length_kept, still_good, goes_on, refused}
 use Rattle.run.proofs.beside.strays.Reads as strays-reads
 use Rattle.run.proofs.kept.look.Reads as look-reads
@@ -44,12 +44,11 @@ use Rattle.bitturns.proofs.give_at.Reads as give-at-reads
 use Rattle.turns.proofs.refuse.Reads as refuse-reads
 use Rattle.registers.proofs.pc.Reads as pc-reads
 use Rattle.run.proofs.repeat.Reads as reads
-use Rattle.run.proofs.repeat.Lts as lts
 use Rattle.run.proofs.repeat.Goals as goal
 
 -- where the arms of the match meet
 abbrev Met : Type 0
-Met = lts.At-match-branch (strays-reads.Asked, strays-reads.Learnt, look-reads.Asked, look-reads.Learnt, reg-byte-reads.Asked, reg-byte-reads.Learnt, reg-word-reads.Asked, reg-word-reads.Learnt, reg-long-reads.Asked, reg-long-reads.Learnt, imm-byte-reads.Asked, imm-byte-reads.Learnt, imm-word-reads.Asked, imm-word-reads.Learnt, imm-long-reads.Asked, imm-long-reads.Learnt, counted-reads.Asked, counted-reads.Learnt, turned-reads.Asked, turned-reads.Learnt, turned-long-reads.Asked, turned-long-reads.Learnt, single-Reads.Asked, single-Reads.Learnt, byte-Reads.Asked, byte-Reads.Learnt, word_reads.Asked, word_reads.Learnt, long_reads.Asked, long_reads.Learnt, branch-near-reads.Asked, branch-near-reads.Learnt, branch-far-reads.Asked, branch-far-reads.Learnt, jump-reads.Asked, jump-reads.Learnt, take-reads.Asked, take-reads.Learnt, give-reads.Asked, give-reads.Learnt, take-at-reads.Asked, take-at-reads.Learnt, give-at-reads.Asked, give-at-reads.Learnt, refuse-reads.Asked, refuse-reads.Learnt, pc-reads.Asked, pc-reads.Learnt) reads.Pre reads.Post invariant_loop decreases_loop
+Met = goal.At-match-branch (strays-reads.Asked, strays-reads.Learnt, look-reads.Asked, look-reads.Learnt, reg-byte-reads.Asked, reg-byte-reads.Learnt, reg-word-reads.Asked, reg-word-reads.Learnt, reg-long-reads.Asked, reg-long-reads.Learnt, imm-byte-reads.Asked, imm-byte-reads.Learnt, imm-word-reads.Asked, imm-word-reads.Learnt, imm-long-reads.Asked, imm-long-reads.Learnt, counted-reads.Asked, counted-reads.Learnt, turned-reads.Asked, turned-reads.Learnt, turned-long-reads.Asked, turned-long-reads.Learnt, single-Reads.Asked, single-Reads.Learnt, byte-Reads.Asked, byte-Reads.Learnt, word_reads.Asked, word_reads.Learnt, long_reads.Asked, long_reads.Learnt, branch-near-reads.Asked, branch-near-reads.Learnt, branch-far-reads.Asked, branch-far-reads.Learnt, jump-reads.Asked, jump-reads.Learnt, take-reads.Asked, take-reads.Learnt, give-reads.Asked, give-reads.Learnt, take-at-reads.Asked, take-at-reads.Learnt, give-at-reads.Asked, give-at-reads.Learnt, refuse-reads.Asked, refuse-reads.Learnt, pc-reads.Asked, pc-reads.Learnt) reads.Pre reads.Post invariant_loop decreases_loop
 
 -- whichever group was called, it left what the step leaves
 turned : (c : Met) → (

@@ -17,7 +17,7 @@ use Rattle.turns.proofs.Laws.{refused_stays, no_turn}
 use Rattle.run.specs.MirrorTrail.{trail_at, Last}
 use Rattle.run.proofs.Quiet.{quiet_counted, quiet_turned, quiet_turned_long}
 use Rattle.run.specs.MirrorKept.{Keeps}
-use Rattle.run.specs.MirrorAlong.{alongFrom}
+use Rattle.run.specs.MirrorAlong.{along_from}
 use Rattle.run.proofs.Turns.{no_kind, outside, by_kind_lem, by_trail, step_is, as_done, not_stopped, not_halted, turn_done, turn_refused, same_registers, same_memory, pc_fits, stops, spent, strayed, length_kept, still_good, goes_on, refused}
 use Rattle.run.proofs.beside.strays.Reads as strays-reads
 use Rattle.run.proofs.kept.look.Reads as look-reads
@@ -49,7 +49,7 @@ use Rattle.run.proofs.repeat.Given as goal
 
 abbrev pub invariant-loop-pc : goal.invariant-loop-pc
 invariant-loop-pc l =
-    (length l.lines ≡ length l.initial.lines) × (length l.ram ≡ length l.initial.ram) × (l.steps ≤ l.budget) × (l.states ≤ 4294967295 + l.steps * 4294967295) × (alongFrom l.b l.rom l.stop l.records (l.budget - l.steps) l.ram (lent l.er l.pc l.f) l.steps l.states ≡ alongFrom l.b l.rom l.stop l.records l.budget l.initial.ram (lent l.initial.er l.initial.pc l.initial.f) 0 l.before) × (good_board l.b (length l.rom) (length l.ram) && good_pc l.pc ≡ true) × Keeps l.rom l.lines
+    (length l.lines ≡ length l.initial.lines) × (length l.ram ≡ length l.initial.ram) × (l.steps ≤ l.budget) × (l.states ≤ 4294967295 + l.steps * 4294967295) × (along_from l.b l.rom l.stop l.records (l.budget - l.steps) l.ram (lent l.er l.pc l.f) l.steps l.states ≡ along_from l.b l.rom l.stop l.records l.budget l.initial.ram (lent l.initial.er l.initial.pc l.initial.f) 0 l.before) × (good_board l.b (length l.rom) (length l.ram) && good_pc l.pc ≡ true) × Keeps l.rom l.lines
     × (l.steps ≡ 0 → lent l.er l.pc l.f ≡ lent l.initial.er l.initial.pc l.initial.f) × ((l.steps ≡ 0 → ⊥) → Last l.b l.rom (lent l.initial.er l.initial.pc l.initial.f) l.steps (lent l.er l.pc l.f) l.trail)
 
 abbrev pub decreases-loop-pc : goal.decreases-loop-pc

@@ -3,12 +3,12 @@ use Rattle.registers.specs.Lent.{lent}
 use Rattle.timing.specs.Made.{base_of}
 use Rattle.codes.specs.declared.Reach.TheVariants.{Near}
 use Rattle.codes.specs.declared.Instruction.TheVariants.{Bsr}
-use Rattle.step.specs.Follow.{followOf}
+use Rattle.step.specs.Follow.{follow_of}
 use Rattle.step.specs.Step.{effect_of}
 use Rattle.transfer.proofs.Laws.{push_takes, call_acts}
 use borrow.Author.Rules.{rules}
 use Rattle.transfer.proofs.call_near.Goals as goal
 
 pub returns : goal.returns
-unfolding base_of followOf effect_of
+unfolding base_of follow_of effect_of
 returns c = (λ rom. let a = c.args in (rw (c.target-to.ensures, c.next-next.ensures) at (c.called.ensures.0 a.pc)) ∙ call_acts (Bsr (Near a.d)) 2 _ 4 a.er.now a.pc a.f a.b rom a.ram.now (push_takes a.b.site (lent a.er.now a.pc a.f) (Bsr (Near a.d)) refl) refl refl, c.called.ensures.1)

@@ -4,7 +4,7 @@ use mathlib.Core.Path.{refl, sym, ◌∙◌}
 use Rattle.registers.specs.Lent.{lent}
 use Rattle.codes.specs.declared.Target.TheVariants.{Vector}
 use Rattle.codes.specs.declared.Instruction.TheVariants.{Jsr}
-use Rattle.step.specs.Follow.{aim_of, followOf}
+use Rattle.step.specs.Follow.{aim_of, follow_of}
 use Rattle.step.specs.Step.{effect_of}
 use Rattle.turns.proofs.Laws.{unread_acts, no_turn}
 use Rattle.transfer.proofs.Laws.{jsr_takes, call_acts}
@@ -12,9 +12,9 @@ use borrow.Author.Rules.{rules}
 use Rattle.transfer.proofs.call_vector.Goals as goal
 
 pub returns-in-Value : goal.returns-in-Value
-unfolding got_noted address_of aim_of followOf effect_of
+unfolding got_noted address_of aim_of follow_of effect_of
 returns-in-Value c = let a = c.args in ((rw c.next.ensures at (c.called.ensures.0 a.pc)) ∙ call_acts (Jsr (Vector a.a)) 2 _ _ a.er.now a.pc a.f a.b a.rom.now a.ram.now (jsr_takes a.b.site (lent a.er.now a.pc a.f) _ a.a c.access-n.ensures.0) (sym c.read.ensures.0 ∙ c.in-Value.is) refl, λ pc o. rw (rw c.in-Value.is at c.read.ensures.1) at (c.called.ensures.1 pc o))
 
 pub returns-in-NotRead : goal.returns-in-NotRead
-unfolding got_noted address_of aim_of followOf effect_of
+unfolding got_noted address_of aim_of follow_of effect_of
 returns-in-NotRead c = let a = c.args in (rw c.refuse.ensures (unread_acts (Jsr (Vector a.a)) 2 0 a.er.now a.pc a.f a.b a.rom.now a.ram.now _ (sym c.read.ensures.0 ∙ c.in-NotRead.is)), λ pc o. absurd (no_turn _ _ _ c.refuse.ensures o))
