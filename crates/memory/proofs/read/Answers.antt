@@ -3,4 +3,4 @@ use borrow.Author.Rules.{rules}
 use Rattle.memory.proofs.read.Goals as goal
 
 pub returns : goal.returns
-returns c = (c.look-got.ensures, rw c.touch.ensures.0 at c.note_got.ensures)
+returns c = record { value = c.look-got.ensures; told = rw c.touch.ensures.0 at c.note_got.ensures }

@@ -3,4 +3,4 @@ use borrow.Author.Rules.{rules}
 use Rattle.memory.proofs.write.Goals as goal
 
 pub returns : goal.returns
-returns c = (c.store-put.ensures, rw c.touch.ensures.0 at c.note_put.ensures)
+returns c = record { value = c.store-put.ensures; told = rw c.touch.ensures.0 at c.note_put.ensures }

@@ -7,9 +7,15 @@ use Rattle.products.specs.Products.{half_bits}
 use Rattle.products.proofs.Forms.{form}
 use Rattle.products.proofs.Divisions.{none, over, divided}
 use borrow.Author.Rules.{rules}
+use Rattle.products.proofs.divxu.Lts as lts
+use Rattle.products.proofs.divxu.Tie as tie
+use Rattle.products.proofs.divxu.Reads as reads
 use Rattle.products.proofs.divxu.Goals as goal
 
-module _ (c : goal.After-low_bits-q) where
+abbrev AfterBoth : Type 0
+AfterBoth = lts.After-low_bits2 tie.the-claims reads.Pre reads.Post
+
+module _ (c : AfterBoth) where
   power : c.power-m.result ≡ 2 ^ half_bits c.args.h
   power = cc (form c.args.h).narrow
 
@@ -25,7 +31,7 @@ module _ (c : goal.After-low_bits-q) where
 
 pub returns-then-q-eq0 : goal.returns-then-q-eq0
 returns-then-q-eq0 c =
-    let d = c in
+    let d = c.before in
     let s = d.args in
     sym (none (half_bits s.h) s.a s.b (cc (divisor d)))
 
@@ -34,20 +40,20 @@ overflow_cast-x c = omega (arith, div-le_self c.low_bits-p.result c.low_bits-q.r
 
 pub join-requires : goal.join-requires
 join-requires c =
-    let d = c in
+    let d = c.before.before in
     let s = d.args in
     let rest = mod-lt d.low_bits-p.result {m = d.low_bits-q.result} (omega (arith, c.if-q-eq0.false)) in
     (omega (arith, power d), omega (arith, divisor d, mod-lt s.b {m = 2 ^ half_bits s.h} (pow_pos (half_bits s.h))))
 
 pub returns-then-m-x : goal.returns-then-m-x
 returns-then-m-x c =
-    let d = c in
+    let d = c.before.before in
     let s = d.args in
     sym (over (half_bits s.h) s.a s.b (rw (divisor d) at c.if-q-eq0.false) (rw (power d, dividend d, divisor d) at c.if-m-x.true))
 
 pub returns-else-m-x : goal.returns-else-m-x
 returns-else-m-x c =
-    let d = c in
+    let d = c.before.before.before in
     let s = d.args in
     rw (c.join.ensures, half d, dividend d, divisor d)
     (sym (divided (half_bits s.h) s.a s.b (rw (divisor d) at c.if-q-eq0.false) (rw (power d, dividend d, divisor d) at c.if-m-x.false)))

@@ -20,6 +20,6 @@ product-z-requires c = let s = c.args in rw (first c, second c) (multiplies s.h 
 pub returns : goal.returns
 unfolding mulxs_of
 returns c =
-    let p = c in
+    let p = c.before.before.before in
     let s = p.args in
-    rw (c.mov.ensures, c.bits.ensures, c.product_width-d.ensures, to_z-of_z w64 p.product-z.result (record { sfits = p.product-z.type_inv }), p.product-z.ensures, first p, second p, (form s.h).wide)
+    rw (c.mov.ensures, c.bits.ensures, c.product_width-d.ensures, to_z-of_z w64 p.product-z.result (record { sfits = p.product-z.type_inv }), p.product-z.ensures, first p.before, second p.before, (form s.h).wide)
