@@ -17,7 +17,7 @@ returns-then-not-fits c =
     let l = c in
     let a = l.args in
     let t = tests l.loop-j.j l.wide-n.result l.loop-j.j (length a.s.now) c.loop-j-test.true in
-    sym (differs a.s.now l.wide-n.result l.loop-j.j l.loop-j.a l.loop-j.b t _ c.byte_at.ensures _ c.fits.ensures c.if-not-fits.true) ∙ l.loop-j.invariant.2
+    sym (differs a.s.now l.wide-n.result l.loop-j.j l.loop-j.a l.loop-j.b t _ c.byte_at.ensures _ c.fits.ensures c.if-not-fits.true-raw) ∙ l.loop-j.invariant.2
 
 pub loop-j-smaller : goal.loop-j-smaller
 loop-j-smaller c =
@@ -33,7 +33,7 @@ loop-j-preserved c =
     let t = tests l.loop-j.j l.wide-n.result l.loop-j.j (length a.s.now) c.loop-j-test.true in (
       omega (arith, t.0),
       l.loop-j.invariant.1,
-      sym (goes_on a.s.now l.wide-n.result l.loop-j.j l.loop-j.a l.loop-j.b t _ c.byte_at.ensures _ c.fits.ensures c.if-not-fits.false) ∙ l.loop-j.invariant.2,
+      sym (goes_on a.s.now l.wide-n.result l.loop-j.j l.loop-j.a l.loop-j.b t _ c.byte_at.ensures _ c.fits.ensures c.if-not-fits.false-raw) ∙ l.loop-j.invariant.2,
     )
 
 pub returns : goal.returns

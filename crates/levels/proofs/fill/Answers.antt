@@ -9,19 +9,19 @@ use borrow.Author.Rules.{rules}
 use Rattle.levels.proofs.fill.Goals as goal
 
 pub returns-then-not-fit : goal.returns-then-not-fit
-returns-then-not-fit c = rw (off c.fits-fit.ensures c.if-not-fit.true) (refl, refl)
+returns-then-not-fit c = rw (off c.fits-fit.ensures c.if-not-fit.true-raw) (refl, refl)
 
 pub path_cost-requires : goal.path_cost-requires
-path_cost-requires c = let g = (fitting_is _ _ _ (on c.fits-fit.ensures c.if-not-fit.false)).lent in ((g, omega arith), (λ h. absurd (omega arith)))
+path_cost-requires c = let g = (fitting_is _ _ _ (on c.fits-fit.ensures c.if-not-fit.false-raw)).lent in ((g, omega arith), (λ h. absurd (omega arith)))
 
 pub unpack-requires : goal.unpack-requires
-unpack-requires c = let g = (fitting_is _ _ _ (on c.fits-fit.ensures c.if-not-fit.false)).lent in
+unpack-requires c = let g = (fitting_is _ _ _ (on c.fits-fit.ensures c.if-not-fit.false-raw)).lent in
     record { even = g.even; small = g.small; room = omega (arith, g.room, c.path_cost.ensures.costed.same_length); levels = g.levels }
 
 pub returns : goal.returns
 returns c = let l = c in
     let s = l in
-    let fit = on c.fits-fit.ensures c.if-not-fit.false in
+    let fit = on c.fits-fit.ensures c.if-not-fit.false-raw in
     let f = fitting_is _ _ _ fit in
     let g = f.lent in
     let n = c.path_cost.ensures in

@@ -20,12 +20,12 @@ returns-then-same-4 c = rw (← c.same.ensures, c.if-same.false, ← c.same-2.en
 
 pub returns-then-same-5 : goal.returns-then-same-5
 unfolding use_of
-returns-then-same-5 c = rw (← c.same-2.ensures, c.if-same-2.false, ← c.same-2.ensures, c.if-same-2.false, ← c.same-3.ensures, c.if-same-3.false, ← c.same-4.ensures, c.if-same-4.false, ← c.same-5.ensures, c.if-same-5.true)
+returns-then-same-5 c = rw (← c.same.ensures, c.if-same.false, ← c.same-2.ensures, c.if-same-2.false, ← c.same-3.ensures, c.if-same-3.false, ← c.same-4.ensures, c.if-same-4.false, ← c.same-5.ensures, c.if-same-5.true)
 
 pub returns-then-same-6 : goal.returns-then-same-6
 unfolding use_of
-returns-then-same-6 c = rw (← c.same.ensures, c.if-same.false, ← c.same-3.ensures, c.if-same-3.false, ← c.same-3.ensures, c.if-same-3.false, ← c.same-4.ensures, c.if-same-4.false, ← c.same-5.ensures, c.if-same-5.false, ← c.same-6.ensures, c.if-same-6.true)
+returns-then-same-6 c = rw (← c.same.ensures, c.if-same.false, ← c.same-2.ensures, c.if-same-2.false, ← c.same-3.ensures, c.if-same-3.false, ← c.same-4.ensures, c.if-same-4.false, ← c.same-5.ensures, c.if-same-5.false, ← c.same-6.ensures, c.if-same-6.true)
 
 pub returns-else-same-6 : goal.returns-else-same-6
 unfolding use_of
-returns-else-same-6 c = rw (← c.same.ensures, c.if-same.false, ← c.same-3.ensures, c.if-same-3.false, ← c.same-3.ensures, c.if-same-3.false, ← c.same-4.ensures, c.if-same-4.false, ← c.same-5.ensures, c.if-same-5.false, ← c.same-6.ensures, c.if-same-6.false)
+returns-else-same-6 c = rw (← c.same.ensures, c.if-same.false, ← c.same-2.ensures, c.if-same-2.false, ← c.same-3.ensures, c.if-same-3.false, ← c.same-4.ensures, c.if-same-4.false, ← c.same-5.ensures, c.if-same-5.false, ← c.same-6.ensures, c.if-same-6.false)

@@ -15,8 +15,8 @@ returns-then-regs-lt-REGISTERS c = rw (le-ltb _ _ c.if-answer-lt7.false, lt-ltb 
 
 pub returns-then-number_at-gt255 : goal.returns-then-number_at-gt255
 unfolding replay_call
-returns-then-number_at-gt255 c = rw (le-ltb _ _ c.if-answer-lt7.false, le-ltb _ _ c.if-answer-lt7.false, ← c.number_at.ensures, lt-ltb _ _ c.if-number_at-gt255.true) (leave c.tell_report-then-number_at-gt255.ensures refl refl)
+returns-then-number_at-gt255 c = rw (le-ltb _ _ c.if-answer-lt7.false, le-ltb _ _ c.if-regs-lt-REGISTERS.false, ← c.number_at.ensures, lt-ltb _ _ c.if-number_at-gt255.true) (leave c.tell_report-then-number_at-gt255.ensures refl refl)
 
 pub returns : goal.returns
 unfolding replay_call
-returns c = rw (le-ltb _ _ c.if-answer-lt7.false, le-ltb _ _ c.if-answer-lt7.false, ← c.number_at.ensures, le-ltb _ _ c.if-number_at-gt255.false) c.replay_lent.ensures
+returns c = rw (le-ltb _ _ c.if-answer-lt7.false, le-ltb _ _ c.if-regs-lt-REGISTERS.false, ← c.number_at.ensures, le-ltb _ _ c.if-number_at-gt255.false) c.replay_lent.ensures

@@ -19,8 +19,8 @@ returns-then-budget-gt1000000 c = rw (le-ltb _ _ c.if-answer-lt15.false, le-ltb 
 
 pub returns-then-number_at-gt255 : goal.returns-then-number_at-gt255
 unfolding routine_call
-returns-then-number_at-gt255 c = rw (le-ltb _ _ c.if-answer-lt15.false, le-ltb _ _ c.if-answer-lt15.false, le-ltb _ _ c.if-regs-lt-REGISTERS.false, ← c.number_at.ensures, lt-ltb _ _ c.if-number_at-gt255.true) (leave c.not_run-then-number_at-gt255.ensures refl refl)
+returns-then-number_at-gt255 c = rw (le-ltb _ _ c.if-answer-lt15.false, le-ltb _ _ c.if-regs-lt-REGISTERS.false, le-ltb _ _ c.if-budget-gt1000000.false, ← c.number_at.ensures, lt-ltb _ _ c.if-number_at-gt255.true) (leave c.not_run-then-number_at-gt255.ensures refl refl)
 
 pub returns : goal.returns
 unfolding routine_call
-returns c = rw (le-ltb _ _ c.if-answer-lt15.false, le-ltb _ _ c.if-answer-lt15.false, le-ltb _ _ c.if-regs-lt-REGISTERS.false, ← c.number_at.ensures, le-ltb _ _ c.if-number_at-gt255.false) c.routine_lent.ensures
+returns c = rw (le-ltb _ _ c.if-answer-lt15.false, le-ltb _ _ c.if-regs-lt-REGISTERS.false, le-ltb _ _ c.if-budget-gt1000000.false, ← c.number_at.ensures, le-ltb _ _ c.if-number_at-gt255.false) c.routine_lent.ensures

@@ -17,8 +17,8 @@ returns-then-regs-lt-REGISTERS c = (rw (le-ltb _ _ c.if-answer-lt-STEP_ANSWER.fa
 
 pub returns-then-number_at-gt255 : goal.returns-then-number_at-gt255
 unfolding step_call
-returns-then-number_at-gt255 c = (rw (le-ltb _ _ c.if-answer-lt-STEP_ANSWER.false, le-ltb _ _ c.if-answer-lt-STEP_ANSWER.false, ← c.number_at.ensures, lt-ltb _ _ c.if-number_at-gt255.true) (leave c.refused_step-then-number_at-gt255.ensures refl refl), (λ i m z d. absurd (not_returned _ _ c.refused_step-then-number_at-gt255.ensures z), λ k s. refl))
+returns-then-number_at-gt255 c = (rw (le-ltb _ _ c.if-answer-lt-STEP_ANSWER.false, le-ltb _ _ c.if-regs-lt-REGISTERS.false, ← c.number_at.ensures, lt-ltb _ _ c.if-number_at-gt255.true) (leave c.refused_step-then-number_at-gt255.ensures refl refl), (λ i m z d. absurd (not_returned _ _ c.refused_step-then-number_at-gt255.ensures z), λ k s. refl))
 
 pub returns : goal.returns
 unfolding step_call
-returns c = let s = c.args in (rw (le-ltb _ _ c.if-answer-lt-STEP_ANSWER.false, le-ltb _ _ c.if-answer-lt-STEP_ANSWER.false, ← c.number_at.ensures, le-ltb _ _ c.if-number_at-gt255.false) (c.step_lent.ensures.0 ∙ stepped_is s.board.now s.rom.now s.ram.now s.regs.now s.answer.now), c.step_lent.ensures.1)
+returns c = let s = c.args in (rw (le-ltb _ _ c.if-answer-lt-STEP_ANSWER.false, le-ltb _ _ c.if-regs-lt-REGISTERS.false, ← c.number_at.ensures, le-ltb _ _ c.if-number_at-gt255.false) (c.step_lent.ensures.0 ∙ stepped_is s.board.now s.rom.now s.ram.now s.regs.now s.answer.now), c.step_lent.ensures.1)
