@@ -14,4 +14,4 @@ pub overflow_cast-result-2 : goal.overflow_cast-result-2
 overflow_cast-result-2 c = let s = c.args in let e = put_in (s.n % 8) s.x _ _ s.v (rw c.bit.ensures at c.placed-old.ensures) c.placed.ensures in omega (arith, e, in_range (s.n % 8) s.x s.v (omega arith) (omega arith))
 
 pub returns : goal.returns
-returns c = let s = c.args in let e = put_in (s.n % 8) s.x _ _ s.v (rw c.bit.ensures at c.placed-old.ensures) c.placed.ensures in (e, λ m h. rw e (others_stay (s.n % 8) s.x s.v m h))
+returns c = let s = c.args in let e = put_in (s.n % 8) s.x _ _ s.v (rw c.bit.ensures at c.placed-old.ensures) c.placed.ensures in record { value = e; others = λ m h. rw e (others_stay (s.n % 8) s.x s.v m h) }

@@ -7,4 +7,4 @@ use Rattle.bitturns.proofs.give_at.Goals as goal
 
 pub returns : goal.returns
 unfolding given_at
-returns c = (rw (c.ended.ensures, c.next.ensures, sym c.index_as-index.ensures, sym c.give_as.ensures) (give_ends _ _ 4 _ _ _ _ _ _ _ _ (rw (sym c.address-a.ensures) c.access-n.ensures.0) _ _ (rw (sym c.address-a.ensures) (c.give_at-e.ensures.0 _))), λ pc o. (rw c.address-a.ensures at (c.give_at-e.ensures.1 pc (deed_done _ _ _ _ c.ended.ensures o))) ∙ given_trail _ _ pc _ _)
+returns c = record { did = rw (c.ended.ensures, c.next.ensures, sym c.index_as-index.ensures, sym c.give_as.ensures) (give_ends _ _ 4 _ _ _ _ _ _ _ _ (rw (sym c.address-a.ensures) c.access-n.ensures.0) _ _ (rw (sym c.address-a.ensures) (c.give_at-e.ensures.did _))); told = λ pc o. (rw c.address-a.ensures at (c.give_at-e.ensures.told pc (deed_done _ _ _ _ c.ended.ensures o))) ∙ given_trail _ _ pc _ _ }

@@ -7,4 +7,4 @@ use Rattle.bitturns.proofs.take_at.Goals as goal
 
 pub returns : goal.returns
 unfolding taken_at
-returns c = (rw (c.ended.ensures, c.next.ensures, sym c.index_as-index.ensures, sym c.take_as.ensures) (take_ends _ _ 4 _ _ _ _ _ _ _ _ (rw (sym c.address-a.ensures) c.access-n.ensures.0) _ (rw (sym c.address-a.ensures) (c.take_at-e.ensures.0 _))), λ pc o. (rw c.address-a.ensures at (c.take_at-e.ensures.1 pc (deed_done _ _ _ _ c.ended.ensures o))) ∙ taken_trail _ _ pc _ _)
+returns c = record { did = rw (c.ended.ensures, c.next.ensures, sym c.index_as-index.ensures, sym c.take_as.ensures) (take_ends _ _ 4 _ _ _ _ _ _ _ _ (rw (sym c.address-a.ensures) c.access-n.ensures.0) _ (rw (sym c.address-a.ensures) (c.take_at-e.ensures.did _))); told = λ pc o. (rw c.address-a.ensures at (c.take_at-e.ensures.told pc (deed_done _ _ _ _ c.ended.ensures o))) ∙ taken_trail _ _ pc _ _ }

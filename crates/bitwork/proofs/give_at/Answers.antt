@@ -9,11 +9,8 @@ use Rattle.bitwork.proofs.give_at.Goals as goal
 
 pub returns-in-Value : goal.returns-in-Value
 unfolding got_noted gave_to gives_at
-returns-in-Value c = let b = c in (
-      λ pc. rw (sym b.read.ensures.0 ∙ c.in-Value.is, c.kept.ensures) (given_stored _ _ _ _ _ pc _ _ _ _ _ _ (c.gave-y.ensures pc) c.write.ensures.0),
-      λ pc o. noted_given _ _ _ pc _ _ _ _ (rw c.in-Value.is at b.read.ensures.1) c.write.ensures.1 (sym (ap (λ (e : Deed). e.outcome) c.kept.ensures) ∙ o),
-    )
+returns-in-Value c = let b = c in record { did = λ pc. rw (sym b.read.ensures.value ∙ c.in-Value.is, c.kept.ensures) (given_stored _ _ _ _ _ pc _ _ _ _ _ _ (c.gave-y.ensures pc) c.write.ensures.value); told = λ pc o. noted_given _ _ _ pc _ _ _ _ (rw c.in-Value.is at b.read.ensures.told) c.write.ensures.told (sym (ap (λ (e : Deed). e.outcome) c.kept.ensures) ∙ o) }
 
 pub returns-in-NotRead : goal.returns-in-NotRead
 unfolding got_noted gave_to gives_at
-returns-in-NotRead c = (λ pc. simp (sym c.read.ensures.0 ∙ c.in-NotRead.is, c.refused.ensures), λ pc o. absurd (no_deed _ _ _ c.refused.ensures o))
+returns-in-NotRead c = record { did = λ pc. simp (sym c.read.ensures.value ∙ c.in-NotRead.is, c.refused.ensures); told = λ pc o. absurd (no_deed _ _ _ c.refused.ensures o) }

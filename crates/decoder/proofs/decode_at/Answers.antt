@@ -10,10 +10,7 @@ use Rattle.decoder.proofs.decode_at.Goals as goal
 pub returns : goal.returns
 returns c = let a = c.args in
     let s = a.bytes.now in
-    let e = c.placed.ensures ∙ ap (placed_of a.place s) c.begins.ensures in (
-      subst (λ r. Decodes a.place s r) (sym e) (exact a.place s (bytes_of s (λ k. omega (
+    let e = c.placed.ensures ∙ ap (placed_of a.place s) c.begins.ensures in record { exact = subst (λ r. Decodes a.place s r) (sym e) (exact a.place s (bytes_of s (λ k. omega (
         arith,
         c.shared_slice_known-1.given k,
-      )))),
-      e,
-    )
+      )))); mirror = e }

@@ -13,8 +13,8 @@ returns-in-Fit c = let f = c in
     let bytes = bytes_of s.rom.now (λ k. omega (arith, l.shared_slice_known-1.given k)) in
     let fit = sym f.look-a.ensures ∙ f.in-Fit.is in
     let held = rw (good_fitting (fit_good _ _ _ _ fit)) at f.fill-r.ensures in
-    promised s.k s.rom.now s.entry s.table.now c.told.result f.fill-r.new.1.1.1.0 bytes
-    (rw c.told.ensures (figured_fit s.k s.rom.now bytes s.entry s.table.now f.fill-r.new.1.1.1.0 f.fill-r.result fit held.0 held.1))
+    promised s.k s.rom.now s.entry s.table.now c.told.result f.fill-r.new.table bytes
+    (rw c.told.ensures (figured_fit s.k s.rom.now bytes s.entry s.table.now f.fill-r.new.table f.fill-r.result fit held.0 held.1))
 
 pub returns-in-Unfit : goal.returns-in-Unfit
 returns-in-Unfit c = let l = c in

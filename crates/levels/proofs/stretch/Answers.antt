@@ -14,25 +14,25 @@ use Rattle.levels.proofs.stretch.Goals as goal
 pub loop-p-init : goal.loop-p-init
 loop-p-init c =
     let s = c in
-    (omega arith, omega arith, omega (arith, s.requires.0.0.even, s.requires.0.1), refl, (λ k r. at_first (flow_at k s.args.rom.now) (length s.args.rom.now) s.args.table.now (omega arith) r))
+    (omega arith, omega arith, omega (arith, s.requires.lent.0.even, s.requires.lent.1), refl, (λ k r. at_first (flow_at k s.args.rom.now) (length s.args.rom.now) s.args.table.now (omega arith) r))
 
 pub overflow_sub-p-in-loop-p : goal.overflow_sub-p-in-loop-p
 overflow_sub-p-in-loop-p c = omega arith
 
 pub bounds-table-p : goal.bounds-table-p
-bounds-table-p c = omega (arith, c.requires.0.0.room)
+bounds-table-p c = omega (arith, c.requires.lent.0.room)
 
 pub bounds-table-p-in-loop-p : goal.bounds-table-p-in-loop-p
-bounds-table-p-in-loop-p c = omega (arith, c.requires.0.0.room)
+bounds-table-p-in-loop-p c = omega (arith, c.requires.lent.0.room)
 
 pub overflow_cast-p : goal.overflow_cast-p
-overflow_cast-p c = omega (arith, c.requires.0.0.small)
+overflow_cast-p c = omega (arith, c.requires.lent.0.small)
 
 pub overflow_add-at : goal.overflow_add-at
 overflow_add-at c = omega arith
 
 pub bounds-table-at : goal.bounds-table-at
-bounds-table-at c = omega (arith, c.requires.0.0.room)
+bounds-table-at c = omega (arith, c.requires.lent.0.room)
 
 pub overflow_mul-table : goal.overflow_mul-table
 overflow_mul-table c = omega (arith, c.slice_known-in-loop-p-3-1.given (c.loop-p.p - 2 + c.args.depth % 2))
@@ -41,24 +41,24 @@ pub overflow_add-table : goal.overflow_add-table
 overflow_add-table c =
     let b = c in
     let s = b in
-    let g = s.requires.0.0 in
+    let g = s.requires.lent.0 in
     let l = c.loop-p in
     let rom = s.args.rom.now in
     let L = listing s.args.k rom (bytes_of rom (λ k. omega (arith, b.shared_slice_known.given k))) g.even g.small in
     let small =
-    row_small (flow_at s.args.k rom) (length rom) L s.args.depth (l.p - 2) c.reckon-r.result (omega arith) (omega arith) g.room (omega arith) (l.invariant.4 s.args.k s.requires.1)
+    row_small (flow_at s.args.k rom) (length rom) L s.args.depth (l.p - 2) c.reckon-r.result (omega arith) (omega arith) g.room (omega arith) (l.invariant.4 s.args.k s.requires.ready)
     c.reckon-r.ensures
     in
     omega (arith, small, c.slice_known-in-loop-p-3-1.given (l.p - 2 + s.args.depth % 2))
 
 pub bounds-table-at-in-loop-p : goal.bounds-table-at-in-loop-p
-bounds-table-at-in-loop-p c = omega (arith, c.requires.0.0.room)
+bounds-table-at-in-loop-p c = omega (arith, c.requires.lent.0.room)
 
 pub loop-p-preserved : goal.loop-p-preserved
 loop-p-preserved c =
     let b = c in
     let s = b in
-    let g = s.requires.0.0 in
+    let g = s.requires.lent.0 in
     let l = c.loop-p in
     let i = l.invariant in
     let rom = s.args.rom.now in
@@ -78,4 +78,4 @@ shape_of-table c = c.loop-p.invariant.3
 pub returns : goal.returns
 returns c =
     let s = c in
-    from_higher (flow_at s.args.k s.args.rom.now) (length s.args.rom.now) (omega (arith, s.requires.0.1)) (c.loop-p.invariant.4 s.args.k s.requires.1)
+    from_higher (flow_at s.args.k s.args.rom.now) (length s.args.rom.now) (omega (arith, s.requires.lent.1)) (c.loop-p.invariant.4 s.args.k s.requires.ready)

@@ -8,8 +8,8 @@ use Rattle.moves.proofs.pop.Goals as goal
 
 pub returns-in-Value : goal.returns-in-Value
 unfolding got_noted part_of address_of loaded_of load_of
-returns-in-Value c = (λ pc. let a = c.args in rw c.did.ensures (raised_loaded a.w a.e a.d c.in-Value.x pc a.er.now _ _ a.f _ _ a.b a.rom.now a.ram.now (rw (sym c.get.ensures) (sym c.read.ensures.0 ∙ c.in-Value.is)) (rw c.bytes.ensures at (c.raise-g.ensures pc)) (c.mov.ensures pc)), λ pc o. rw (c.get.ensures, c.in-Value.is) at c.read.ensures.1)
+returns-in-Value c = record { did = λ pc. let a = c.args in rw c.did.ensures (raised_loaded a.w a.e a.d c.in-Value.x pc a.er.now _ _ a.f _ _ a.b a.rom.now a.ram.now (rw (sym c.get.ensures) (sym c.read.ensures.value ∙ c.in-Value.is)) (rw c.bytes.ensures at (c.raise-g.ensures pc)) (c.mov.ensures pc)); told = λ pc o. rw (c.get.ensures, c.in-Value.is) at c.read.ensures.told }
 
 pub returns-in-NotRead : goal.returns-in-NotRead
 unfolding got_noted part_of address_of loaded_of load_of
-returns-in-NotRead c = (λ pc. simp (sym c.get.ensures, sym c.read.ensures.0 ∙ c.in-NotRead.is, c.refused.ensures), λ pc o. absurd (no_deed _ _ _ c.refused.ensures o))
+returns-in-NotRead c = record { did = λ pc. simp (sym c.get.ensures, sym c.read.ensures.value ∙ c.in-NotRead.is, c.refused.ensures); told = λ pc o. absurd (no_deed _ _ _ c.refused.ensures o) }

@@ -11,4 +11,4 @@ returns-then-rom-at c = rw (drop_of_length-le _ c.if-rom-at.true)
 pub returns : goal.returns
 unfolding seen_at seen_in
 returns c = let a = c.args in
-    rw (c.standing.ensures, c.decode_at.ensures.1, rest_of a.pc a.rom.now)
+    rw (c.standing.ensures, c.decode_at.ensures.mirror, rest_of a.pc a.rom.now)

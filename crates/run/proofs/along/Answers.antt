@@ -8,4 +8,4 @@ pub start-k-requires : goal.start-k-requires
 start-k-requires c = (none_kept _ _ refl, record { there = λ h. rw c.fewer-n.ensures (counted _ _) })
 
 pub returns : goal.returns
-returns c = rw (← c.fewer-n.ensures) c.start-k.ensures.0
+returns c = rw (← c.fewer-n.ensures) c.start-k.ensures.did

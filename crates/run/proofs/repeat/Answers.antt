@@ -172,17 +172,17 @@ loop-pc-preserved c = let m = c in
 pub returns-then-pc-stop : goal.returns-then-pc-stop
 returns-then-pc-stop c = let a = c.args in
     let s = c.loop-pc in
-    (sym (stops a.b a.rom.now a.stop a.records.now s.ram (lent s.er s.pc s.f) s.steps s.states (a.budget - s.steps) c.if-pc-stop.true) ∙ s.invariant.4, λ h n. absurd (not_stopped h))
+    record { did = sym (stops a.b a.rom.now a.stop a.records.now s.ram (lent s.er s.pc s.f) s.steps s.states (a.budget - s.steps) c.if-pc-stop.true) ∙ s.invariant.4; told = λ h n. absurd (not_stopped h) }
 
 pub returns-then-steps-budget : goal.returns-then-steps-budget
 returns-then-steps-budget c = let a = c.args in
     let s = c.loop-pc in
-    (sym (spent a.b a.rom.now a.stop a.records.now s.ram (lent s.er s.pc s.f) s.steps s.states a.budget c.if-pc-stop.false c.if-steps-budget.true) ∙ s.invariant.4, λ h n. s.invariant.8 n)
+    record { did = sym (spent a.b a.rom.now a.stop a.records.now s.ram (lent s.er s.pc s.f) s.steps s.states a.budget c.if-pc-stop.false c.if-steps-budget.true) ∙ s.invariant.4; told = λ h n. s.invariant.8 n }
 
 pub returns-then-strays : goal.returns-then-strays
 returns-then-strays c = let a = c.args in
     let s = c.loop-pc in
-    (sym (strayed a.b a.rom.now a.stop a.records.now s.ram (lent s.er s.pc s.f) s.steps s.states a.budget c.if-pc-stop.false s.invariant.2 c.if-steps-budget.false (sym c.strays.ensures ∙ c.if-strays.true)) ∙ s.invariant.4, λ h n. absurd (not_stopped h))
+    record { did = sym (strayed a.b a.rom.now a.stop a.records.now s.ram (lent s.er s.pc s.f) s.steps s.states a.budget c.if-pc-stop.false s.invariant.2 c.if-steps-budget.false (sym c.strays.ensures ∙ c.if-strays.true)) ∙ s.invariant.4; told = λ h n. absurd (not_stopped h) }
 
 pub returns-then-rom-at : goal.returns-then-rom-at
 returns-then-rom-at c = let a = c.args in
@@ -205,8 +205,5 @@ returns-in-Refused c = let m = c in
     let s = m.loop-pc in
     let r = lent s.er s.pc s.f in
     let x = c.in-Refused.is in
-    let e = turn_refused s.er m.match-e-rem32.er s.pc s.f m.match-e-rem32.t a.b a.rom.now s.ram m.match-e-rem32.ram (turned m) _ x in (
-      rw (same_registers s.er m.match-e-rem32.er s.pc s.f m.match-e-rem32.t a.b a.rom.now s.ram m.match-e-rem32.ram (turned m) _ x)
-          (sym (refused a.b a.rom.now a.stop a.records.now s.ram r s.steps s.states s.invariant.5 _ _ e a.budget m.if-pc-stop.false s.invariant.2 m.if-steps-budget.false (sym m.strays.ensures ∙ m.if-strays.false) _ refl) ∙ s.invariant.4),
-      λ h n. absurd (not_halted h),
-    )
+    let e = turn_refused s.er m.match-e-rem32.er s.pc s.f m.match-e-rem32.t a.b a.rom.now s.ram m.match-e-rem32.ram (turned m) _ x in record { did = rw (same_registers s.er m.match-e-rem32.er s.pc s.f m.match-e-rem32.t a.b a.rom.now s.ram m.match-e-rem32.ram (turned m) _ x)
+          (sym (refused a.b a.rom.now a.stop a.records.now s.ram r s.steps s.states s.invariant.5 _ _ e a.budget m.if-pc-stop.false s.invariant.2 m.if-steps-budget.false (sym m.strays.ensures ∙ m.if-strays.false) _ refl) ∙ s.invariant.4); told = λ h n. absurd (not_halted h) }

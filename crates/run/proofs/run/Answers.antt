@@ -9,4 +9,4 @@ pub start-k-requires : goal.start-k-requires
 start-k-requires c = (none_kept _ _ refl, record { there = λ h. absurd (omega (arith, h)) })
 
 pub returns : goal.returns
-returns c = let a = c.args in c.start-k.ensures.0 ∙ alone a.b a.rom.now a.stop a.budget a.ram.now a.r
+returns c = let a = c.args in c.start-k.ensures.did ∙ alone a.b a.rom.now a.stop a.budget a.ram.now a.r

@@ -2,4 +2,4 @@ use borrow.Author.Rules.{rules}
 use Rattle.run.proofs.single.Goals as goal
 
 pub returns : goal.returns
-returns c = c.watched-t.ensures.0
+returns c = c.watched-t.ensures.did

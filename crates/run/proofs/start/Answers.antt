@@ -20,10 +20,10 @@ pub returns-then-good_board-good_pc : goal.returns-then-good_board-good_pc
 unfolding start_of
 returns-then-good_board-good_pc c = let s = c.args in
     let g : good_start s.b s.rom.now s.ram.now s.r ≡ true = cc in
-    (rw (le-ltb _ _ c.if-budget-gt1000000.false, g) c.repeat.ensures.0, c.repeat.ensures.1)
+    record { did = rw (le-ltb _ _ c.if-budget-gt1000000.false, g) c.repeat.ensures.did; told = c.repeat.ensures.told }
 
 pub returns : goal.returns
 unfolding start_of
 returns c = let s = c.args in
     let g : good_start s.b s.rom.now s.ram.now s.r ≡ false = cc in
-    (rw (le-ltb _ _ c.if-budget-gt1000000.false, g, c.answer-2.ensures), λ h n. absurd (n (ap (λ (q : Traced). q.answer.steps) c.answer-2.ensures)))
+    record { did = rw (le-ltb _ _ c.if-budget-gt1000000.false, g, c.answer-2.ensures); told = λ h n. absurd (n (ap (λ (q : Traced). q.answer.steps) c.answer-2.ensures)) }

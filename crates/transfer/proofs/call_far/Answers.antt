@@ -11,4 +11,4 @@ use Rattle.transfer.proofs.call_far.Goals as goal
 
 pub returns : goal.returns
 unfolding base_of follow_of effect_of
-returns c = (λ rom. let a = c.args in (rw (c.target-to.ensures, c.next-next.ensures) at (c.called.ensures.0 a.pc)) ∙ call_acts (Bsr (Far a.d)) 4 _ 6 a.er.now a.pc a.f a.b rom a.ram.now (push_takes a.b.site (lent a.er.now a.pc a.f) (Bsr (Far a.d)) refl) refl refl, c.called.ensures.1)
+returns c = record { did = λ rom. let a = c.args in (rw (c.target-to.ensures, c.next-next.ensures) at (c.called.ensures.did a.pc)) ∙ call_acts (Bsr (Far a.d)) 4 _ 6 a.er.now a.pc a.f a.b rom a.ram.now (push_takes a.b.site (lent a.er.now a.pc a.f) (Bsr (Far a.d)) refl) refl refl; told = c.called.ensures.told }

@@ -11,4 +11,4 @@ use Rattle.transfer.proofs.call_near.Goals as goal
 
 pub returns : goal.returns
 unfolding base_of follow_of effect_of
-returns c = (λ rom. let a = c.args in (rw (c.target-to.ensures, c.next-next.ensures) at (c.called.ensures.0 a.pc)) ∙ call_acts (Bsr (Near a.d)) 2 _ 4 a.er.now a.pc a.f a.b rom a.ram.now (push_takes a.b.site (lent a.er.now a.pc a.f) (Bsr (Near a.d)) refl) refl refl, c.called.ensures.1)
+returns c = record { did = λ rom. let a = c.args in (rw (c.target-to.ensures, c.next-next.ensures) at (c.called.ensures.did a.pc)) ∙ call_acts (Bsr (Near a.d)) 2 _ 4 a.er.now a.pc a.f a.b rom a.ram.now (push_takes a.b.site (lent a.er.now a.pc a.f) (Bsr (Near a.d)) refl) refl refl; told = c.called.ensures.told }

@@ -13,8 +13,8 @@ use Rattle.transfer.proofs.call_vector.Goals as goal
 
 pub returns-in-Value : goal.returns-in-Value
 unfolding got_noted address_of aim_of follow_of effect_of
-returns-in-Value c = let a = c.args in ((rw c.next.ensures at (c.called.ensures.0 a.pc)) ∙ call_acts (Jsr (Vector a.a)) 2 _ _ a.er.now a.pc a.f a.b a.rom.now a.ram.now (jsr_takes a.b.site (lent a.er.now a.pc a.f) _ a.a c.access-n.ensures.0) (sym c.read.ensures.0 ∙ c.in-Value.is) refl, λ pc o. rw (rw c.in-Value.is at c.read.ensures.1) at (c.called.ensures.1 pc o))
+returns-in-Value c = let a = c.args in record { did = (rw c.next.ensures at (c.called.ensures.did a.pc)) ∙ call_acts (Jsr (Vector a.a)) 2 _ _ a.er.now a.pc a.f a.b a.rom.now a.ram.now (jsr_takes a.b.site (lent a.er.now a.pc a.f) _ a.a c.access-n.ensures.0) (sym c.read.ensures.value ∙ c.in-Value.is) refl; told = λ pc o. rw (rw c.in-Value.is at c.read.ensures.told) at (c.called.ensures.told pc o) }
 
 pub returns-in-NotRead : goal.returns-in-NotRead
 unfolding got_noted address_of aim_of follow_of effect_of
-returns-in-NotRead c = let a = c.args in (rw c.refuse.ensures (unread_acts (Jsr (Vector a.a)) 2 0 a.er.now a.pc a.f a.b a.rom.now a.ram.now _ (sym c.read.ensures.0 ∙ c.in-NotRead.is)), λ pc o. absurd (no_turn _ _ _ c.refuse.ensures o))
+returns-in-NotRead c = let a = c.args in record { did = rw c.refuse.ensures (unread_acts (Jsr (Vector a.a)) 2 0 a.er.now a.pc a.f a.b a.rom.now a.ram.now _ (sym c.read.ensures.value ∙ c.in-NotRead.is)); told = λ pc o. absurd (no_turn _ _ _ c.refuse.ensures o) }

@@ -14,8 +14,8 @@ use Rattle.transfer.proofs.jump_vector.Goals as goal
 
 pub returns-in-Value : goal.returns-in-Value
 unfolding got_noted address_of aim_of follow_of effect_of
-returns-in-Value c = (λ pc n. let a = c.args in rw c.done.ensures (done_taking (Jmp (Vector a.a)) n _ a.er.now pc a.f a.b a.rom.now a.ram.now _ (jmp_takes a.b.site (lent a.er.now pc a.f) _ a.a c.access.ensures.0) (λ (r : Registers). r) _ _ (sym c.read.ensures.0 ∙ c.in-Value.is) refl (λ _. refl)), λ pc o. rw c.in-Value.is at c.read.ensures.1)
+returns-in-Value c = record { did = λ pc n. let a = c.args in rw c.done.ensures (done_taking (Jmp (Vector a.a)) n _ a.er.now pc a.f a.b a.rom.now a.ram.now _ (jmp_takes a.b.site (lent a.er.now pc a.f) _ a.a c.access.ensures.0) (λ (r : Registers). r) _ _ (sym c.read.ensures.value ∙ c.in-Value.is) refl (λ _. refl)); told = λ pc o. rw c.in-Value.is at c.read.ensures.told }
 
 pub returns-in-NotRead : goal.returns-in-NotRead
 unfolding got_noted address_of aim_of follow_of effect_of
-returns-in-NotRead c = (λ pc n. let a = c.args in rw c.refuse.ensures (unread_acts (Jmp (Vector a.a)) n 0 a.er.now pc a.f a.b a.rom.now a.ram.now _ (sym c.read.ensures.0 ∙ c.in-NotRead.is)), λ pc o. absurd (no_turn _ _ _ c.refuse.ensures o))
+returns-in-NotRead c = record { did = λ pc n. let a = c.args in rw c.refuse.ensures (unread_acts (Jmp (Vector a.a)) n 0 a.er.now pc a.f a.b a.rom.now a.ram.now _ (sym c.read.ensures.value ∙ c.in-NotRead.is)); told = λ pc o. absurd (no_turn _ _ _ c.refuse.ensures o) }

@@ -6,14 +6,5 @@ use Rattle.watch.proofs.single.Goals as goal
 pub returns : goal.returns
 returns c = let a = c.args in
     let w = c.watched-t in
-    let s = w.ensures.0 in
-    let l = told_list a.b a.rom.now a.ram.now a.r w.result.answer _ s w.result.touched c.unpacked-l.result w.ensures.1 c.unpacked-l.ensures in (
-      s,
-      (
-        l,
-        (
-          told_sum a.b a.rom.now a.ram.now a.r (record { answer = w.result.answer; list = c.unpacked-l.result }) _ s l,
-          told_spares a.b a.rom.now a.ram.now a.r w.result.answer _ s _ l,
-        ),
-      ),
-    )
+    let s = w.ensures.did in
+    let l = told_list a.b a.rom.now a.ram.now a.r w.result.answer _ s w.result.touched c.unpacked-l.result w.ensures.told c.unpacked-l.ensures in record { answer = s; list = l; sum = told_sum a.b a.rom.now a.ram.now a.r (record { answer = w.result.answer; list = c.unpacked-l.result }) _ s l; spares = told_spares a.b a.rom.now a.ram.now a.r w.result.answer _ s _ l }

@@ -7,8 +7,8 @@ use Rattle.wording.proofs.decoded.Goals as goal
 
 pub returns-then-at-rom : goal.returns-then-at-rom
 unfolding decoded_at
-returns-then-at-rom c = c.decode_at.ensures.1 ∙ part_decoded c.args.rom.now c.args.p
+returns-then-at-rom c = c.decode_at.ensures.mirror ∙ part_decoded c.args.rom.now c.args.p
 
 pub returns : goal.returns
 unfolding decoded_at
-returns c = rw (drop_of_length-le _ c.if-at-rom.false) c.decode_at-2.ensures.1
+returns c = rw (drop_of_length-le _ c.if-at-rom.false) c.decode_at-2.ensures.mirror

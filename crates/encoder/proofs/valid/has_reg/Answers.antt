@@ -8,6 +8,7 @@ use Rattle.codes.specs.contracts.Op.{the_type}
 use Rattle.encoder.specs.Names.{Width, Op, Add, Sub, Cmp, Mov, Addx, Subx, Or, Xor, And}
 use Rattle.encoder.specs.MirrorValid.{is_byte, has_reg}
 use borrow.Author.Rules.{rules}
+use borrow.Enum.Refused.{opened}
 use Rattle.encoder.proofs.valid.has_reg.Goals as goal
 
 abbrev two : List ℕ
@@ -42,4 +43,4 @@ pub returns-in-Addx : goal.returns-in-Addx
 returns-in-Addx c = rw (← small _ _ c.in-Addx.in-Addx-own.keys1) c.is_byte.ensures
 
 pub returns-in_default : goal.returns-in_default
-returns-in_default c = any c.args.op c.args.w c.in_default.in_default-own.keys2
+returns-in_default c = any c.args.op c.args.w (opened c.in_default.in_default-own.keys2)

@@ -9,5 +9,5 @@ returns-then-out-n c = let a = c.args in
 pub returns : goal.returns
 returns c = let b = c in
     let a = b.args in
-    room a.h a.out.now c.write.new.1.0 b.size_of-n.result b.size_of-n.ensures
+    room a.h a.out.now c.write.new.out b.size_of-n.result b.size_of-n.ensures
     c.if-out-n.false c.write.ensures

@@ -8,14 +8,14 @@ put_prefix-requires c = omega arith
 pub put2-requires : goal.put2-requires
 put2-requires c = omega (
       arith,
-      c.put_prefix.auto.0,
+      c.put_prefix.auto.out,
     )
 
 pub put_tail-requires : goal.put_tail-requires
 put_tail-requires c = omega (
       arith,
-      c.put2.auto.0,
-      c.put_prefix.auto.0,
+      c.put2.auto.out,
+      c.put_prefix.auto.out,
     )
 
 pub returns : goal.returns

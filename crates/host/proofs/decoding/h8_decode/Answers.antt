@@ -10,4 +10,4 @@ pub returns-then-fields-lt9 : goal.returns-then-fields-lt9
 returns-then-fields-lt9 c = decode_short c.if-answer-lt3.false c.if-fields-lt9.true c.refused_three.ensures
 
 pub returns : goal.returns
-returns c = decode_call c.if-answer-lt3.false c.if-fields-lt9.false c.decode-d.ensures.0 c.put_decoded.ensures
+returns c = decode_call c.if-answer-lt3.false c.if-fields-lt9.false c.decode-d.ensures.exact c.put_decoded.ensures

@@ -6,7 +6,7 @@ use borrow.Author.Rules.{rules}
 use Rattle.host.proofs.figures.h8_figure.Goals as goal
 
 pub returns-then-answer-lt4 : goal.returns-then-answer-lt4
-returns-then-answer-lt4 c = (answer_short c.if-answer-lt4.true, ((λ h e. absurd (omega arith)), (λ zero. absurd (omega arith))))
+returns-then-answer-lt4 c = record { told = answer_short c.if-answer-lt4.true; exact = (λ h e. absurd (omega arith)); runs = (λ zero. absurd (omega arith)) }
 
 pub returns : goal.returns
 returns c = let f = c in
@@ -14,10 +14,4 @@ returns c = let f = c in
     let k = f.site_in-k.ensures in
     let told = c.tell_figure.ensures in
     let v = f.figure-v.result in
-    let p = f.figure-v.ensures in (
-      figure_call k f.if-answer-lt4.false p.0 told,
-      (
-        figure_exactly s.answer.now s.board.now s.rom.now s.entry k v told s.table.now p.1.0,
-        figure_kept s.answer.now s.board.now s.rom.now s.entry k v told p.1.1,
-      ),
-    )
+    let p = f.figure-v.ensures in record { told = figure_call k f.if-answer-lt4.false p.answer told; exact = figure_exactly s.answer.now s.board.now s.rom.now s.entry k v told s.table.now p.exact; runs = figure_kept s.answer.now s.board.now s.rom.now s.entry k v told p.runs }

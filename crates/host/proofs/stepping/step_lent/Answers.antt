@@ -8,10 +8,4 @@ unfolding step_lent
 returns c = let b = c.board_in-b.ensures in
     let r = c.registers_in.ensures in
     let w = c.single-w in
-    let k = c.tell_step.ensures in (
-      rw (← b, ← r, ← w.ensures.0, ← w.ensures.1.0, ← k),
-      (
-        step_summed w.result _ _ k _ _ (rw (b, r) at w.ensures.1.1.0),
-        step_spares w.result _ _ k _ _ _ _ (rw (b, r) at w.ensures.0) (rw b at w.ensures.1.1.1),
-      ),
-    )
+    let k = c.tell_step.ensures in record { did = rw (← b, ← r, ← w.ensures.answer, ← w.ensures.list, ← k); sum = step_summed w.result _ _ k _ _ (rw (b, r) at w.ensures.sum); spares = step_spares w.result _ _ k _ _ _ _ (rw (b, r) at w.ensures.answer) (rw b at w.ensures.spares) }
