@@ -12,7 +12,7 @@ pub returns-then-not-fit : goal.returns-then-not-fit
 returns-then-not-fit c = rw (off c.fits-fit.ensures c.if-not-fit.true-raw) (refl, refl)
 
 pub path_cost-requires : goal.path_cost-requires
-path_cost-requires c = let g = (fitting_is _ _ _ (on c.fits-fit.ensures c.if-not-fit.false-raw)).lent in ((g, omega arith), (λ h. absurd (omega arith)))
+path_cost-requires c = let g = (fitting_is _ _ _ (on c.fits-fit.ensures c.if-not-fit.false-raw)).lent in record { lent = (g, omega arith); ready = (λ h. absurd (omega arith)) }
 
 pub unpack-requires : goal.unpack-requires
 unpack-requires c = let g = (fitting_is _ _ _ (on c.fits-fit.ensures c.if-not-fit.false-raw)).lent in
@@ -27,5 +27,5 @@ returns c = let l = c in
     let n = c.path_cost.ensures in
     let flow = flow_at s.args.k s.args.rom.now in
     let len = length s.args.rom.now in
-    let L = listing s.args.k s.args.rom.now (bytes_of s.args.rom.now (λ k. omega (arith, l.shared_slice_known.given k))) g.even g.small in
+    let L = listing s.args.k s.args.rom.now (bytes_of s.args.rom.now (λ k. omega (arith, l.shared_slice_known-1.given k))) g.even g.small in
     rw (fit, c.level_row-r.ensures) (entry_row flow len L (omega (arith, g.even)) n s.args.entry f.entry_even, filled flow len L (omega (arith, g.even)) n c.unpack.ensures)

@@ -44,7 +44,7 @@ overflow_add-table c =
     let g = s.requires.lent.0 in
     let l = c.loop-p in
     let rom = s.args.rom.now in
-    let L = listing s.args.k rom (bytes_of rom (λ k. omega (arith, b.shared_slice_known.given k))) g.even g.small in
+    let L = listing s.args.k rom (bytes_of rom (λ k. omega (arith, b.shared_slice_known-1.given k))) g.even g.small in
     let small =
     row_small (flow_at s.args.k rom) (length rom) L s.args.depth (l.p - 2) c.reckon-r.result (omega arith) (omega arith) g.room (omega arith) (l.invariant.4 s.args.k s.requires.ready)
     c.reckon-r.ensures
@@ -62,7 +62,7 @@ loop-p-preserved c =
     let l = c.loop-p in
     let i = l.invariant in
     let rom = s.args.rom.now in
-    let bytes = bytes_of rom (λ k. omega (arith, b.shared_slice_known.given k)) in (
+    let bytes = bytes_of rom (λ k. omega (arith, b.shared_slice_known-1.given k)) in (
       omega arith,
       omega arith,
       omega arith,

@@ -6,4 +6,4 @@ use Rattle.operate.proofs.raise.Goals as goal
 
 pub returns : goal.returns
 unfolding carried_of part_of with_part
-returns c = λ pc. simp (c.put.ensures, raised _ _ _ c.wrapping_add_u32.ensures, c.get-x.ensures)
+returns c = λ pc. simp (c.put.ensures, raised _ _ _ c.wrapping_add_u32.ensures.value, c.get-x.ensures)

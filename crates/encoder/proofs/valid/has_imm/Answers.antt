@@ -46,4 +46,4 @@ pub returns-in-Addx : goal.returns-in-Addx
 returns-in-Addx c = rw (← small _ _ c.in-Addx.in-Addx-own.keys2) c.is_byte.ensures
 
 pub returns-in_default : goal.returns-in_default
-returns-in_default c = any c.args.op c.args.w c.in_default.in_default-own.keys3
+returns-in_default c = any c.args.op c.args.w (opened c.in_default.in_default-own.keys3)

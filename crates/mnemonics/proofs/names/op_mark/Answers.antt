@@ -8,6 +8,7 @@ use Rattle.text.specs.Lines.{added}
 use Rattle.mnemonics.specs.Names.{mark_of, op_mark}
 use Rattle.mnemonics.specs.Parts.{Width, Op, Add, Sub, Cmp, Mov, Addx, Subx, Or, Xor, And}
 use borrow.Author.Rules.{rules}
+use borrow.Enum.Refused.{opened}
 use Rattle.mnemonics.proofs.names.op_mark.Goals as goal
 
 abbrev two : List ℕ
@@ -44,4 +45,4 @@ returns-in-Addx c = rw (← bare _ _ c.in-Addx.in-Addx-own.keys1) (record { is =
 
 pub returns-in_default : goal.returns-in_default
 unfolding added
-returns-in_default c = rw (← sized _ _ c.in_default.in_default-own.keys2) c.mark.ensures
+returns-in_default c = rw (← sized _ _ (opened c.in_default.in_default-own.keys2)) c.mark.ensures
