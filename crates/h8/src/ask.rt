@@ -1,7 +1,11 @@
 // The arguments: where each stands, and numbers in them.
-ghost use Rattle.std.specs.Prelude.{◌≤◌};
+ghost use Rattle.std.specs.Prelude.{◌≤◌, length};
 
 use asking::{Kind, Number, Use};
+use std::env::{Env, FillError};
+
+// Room for an argument: one that is longer is none that the tool knows.
+pub const LONGEST: usize = 4096;
 
 // Where the arguments stand: words one after the other, options by their name; 0 is none.
 #[derive(Clone, Copy)]
@@ -25,28 +29,37 @@ pub struct Request {
     pub unknown: usize,
 }
 
-pub fn kind_at(i: usize) -> Kind {
-    let mut buf = io::buffer();
-    let n = os::arg(i, &mut buf);
+// The bytes of argument i, to the start of buf, and how many they are; none where it is missing or too long.
+pub fn bytes_at(rt: &impl Env, i: usize, buf: &mut [u8]) -> usize
+    ensures { result ≤ length buf.new }
+{
+    match rt.arg(i, buf) {
+        Ok(n) => n,
+        Err(_) => 0,
+    }
+}
+
+pub fn kind_at(rt: &impl Env, i: usize) -> Kind {
+    let mut buf = [0u8; LONGEST];
+    let n = bytes_at(rt, i, &mut buf);
     asking::kind_of(&buf[..n])
 }
 
 // The use that the word at argument i names; no word asks for help.
-pub fn use_at(i: usize) -> Use {
+pub fn use_at(rt: &impl Env, i: usize) -> Use {
     if i == 0 {
         return Use::ForHelp;
     }
-    let mut buf = io::buffer();
-    let n = os::arg(i, &mut buf);
+    let mut buf = [0u8; LONGEST];
+    let n = bytes_at(rt, i, &mut buf);
     asking::use_of(&buf[..n])
 }
 
-pub fn asks_help() -> bool {
-    let mut buf = io::buffer();
-    let n = os::arg(1, &mut buf);
+pub fn asks_help(rt: &impl Env) -> bool {
+    let mut buf = [0u8; LONGEST];
+    let n = bytes_at(rt, 1, &mut buf);
     asking::asks_help(&buf[..n])
 }
-
 // How many arguments an option takes, itself included.
 fn width(k: Kind) -> usize
     ensures { (1 ≤ result) × (result ≤ 4) }
@@ -78,7 +91,7 @@ fn placed(q: Request, n: usize, i: usize) -> Request {
 fn word(q: Request, i: usize) -> Request {
     let n = q.words;
     let mut r = placed(q, n, i);
-    r.words = std::num::wrapping_add_usize(n, 1);
+    r.words = n.wrapping_add(1);
     r
 }
 
@@ -122,19 +135,29 @@ fn none(count: usize) -> Request {
     }
 }
 
-// No use takes as many as a thousand arguments: then the thousandth is one too many.
-fn counted(n: usize) -> usize
-    ensures { result ≤ 1001 }
-{
-    if n < 1001 { n } else { 1001 }
+fn missing(rt: &impl Env, i: usize) -> bool {
+    let mut buf = [0u8; 1];
+    matches!(rt.arg(i, &mut buf), Err(FillError::NotPresent))
 }
 
-pub fn requested() -> Request {
-    let count = counted(os::arg_count());
+// How many arguments there are, the program's name included. No use takes as many as a thousand: then the thousandth is one too many.
+fn counted(rt: &impl Env) -> usize
+    ensures { result ≤ 1001 }
+{
+    for i in 0..1001usize {
+        if missing(rt, i) {
+            return i;
+        }
+    }
+    1001
+}
+
+pub fn requested(rt: &impl Env) -> Request {
+    let count = counted(rt);
     let mut q = none(count);
     let mut i: usize = 1;
     while i < count {
-        let k = kind_at(i);
+        let k = kind_at(rt, i);
         q = noted(q, k, i);
         i += width(k);
     }
@@ -144,14 +167,14 @@ pub fn requested() -> Request {
     q
 }
 
-pub fn number_at(i: usize) -> Number {
+pub fn number_at(rt: &impl Env, i: usize) -> Number {
     if i == 0 {
         return Number::Missing;
     }
-    let mut buf = io::buffer();
-    let n = os::arg(i, &mut buf);
-    if os::errno() == libc::EINVAL {
-        return Number::Missing;
+    let mut buf = [0u8; LONGEST];
+    match rt.arg(i, &mut buf) {
+        Ok(n) => asking::number_in(&buf[..n]),
+        Err(FillError::TooLong) => asking::number_in(b""),
+        Err(FillError::NotPresent) => Number::Missing,
     }
-    asking::number_in(&buf[..n])
 }

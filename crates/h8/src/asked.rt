@@ -6,6 +6,8 @@ use asking::Kind;
 use registers::{Condition, Registers};
 use runlines::Given;
 use site::Area;
+use std::env::Env;
+use std::io;
 
 // A stop address that PC never holds.
 const NEVER: u64 = 16777215;
@@ -35,19 +37,22 @@ pub fn small(v: u64) -> u32 {
 
 // Where an option's value stands: k arguments after its name; 0 is none.
 fn after(i: usize, k: usize) -> usize {
-    if i == 0 {
-        0
-    } else {
-        std::num::wrapping_add_usize(i, k)
-    }
+    if i == 0 { 0 } else { i.wrapping_add(k) }
 }
 
 // The value of an option that may be left out.
-fn optional(plain: bool, name: &[u8], i: usize, otherwise: u64, expected: &[u8]) -> Got {
+fn optional(
+    rt: &(impl Print + Env),
+    plain: bool,
+    name: &[u8],
+    i: usize,
+    otherwise: u64,
+    expected: &[u8],
+) -> io::Result<Got> {
     if i == 0 {
-        return Got::Found(otherwise);
+        return Ok(Got::Found(otherwise));
     }
-    fault::number(plain, name, after(i, 1), 4294967295, expected)
+    fault::number(rt, plain, name, after(i, 1), 4294967295, expected)
 }
 
 fn asked_for(entry: u64, base: u64, length: u64, stop: u64, budget: u64) -> Wanted {
@@ -106,35 +111,35 @@ pub fn with_area(g: Given, area: Area, rom: &[u8]) -> Given {
 }
 
 // The width of the ports' bus; if it is wrong, a line says so.
-fn bits(plain: bool, i: usize) -> Got {
-    let Got::Found(n) = fault::number(plain, b"BITS of --port", i, 16, b"8 or 16") else {
-        return Got::Wrong;
+fn bits(rt: &(impl Print + Env), plain: bool, i: usize) -> io::Result<Got> {
+    let Got::Found(n) = fault::number(rt, plain, b"BITS of --port", i, 16, b"8 or 16")? else {
+        return Ok(Got::Wrong);
     };
     if (n == 8) | (n == 16) {
-        return Got::Found(n);
+        return Ok(Got::Found(n));
     }
-    fault::wrong(plain, b"BITS of --port", i, b"8 or 16");
-    Got::Wrong
+    fault::wrong(rt, plain, b"BITS of --port", i, b"8 or 16")?;
+    Ok(Got::Wrong)
 }
 
 // The ports that --port names; without it an empty area at `otherwise`.
-pub fn ports(q: Request, otherwise: u32) -> PortArea {
+pub fn ports(rt: &(impl Print + Env), q: Request, otherwise: u32) -> io::Result<PortArea> {
     if q.port == 0 {
-        return PortArea {
+        return Ok(PortArea {
             area: none_at(otherwise),
             bad: false,
-        };
+        });
     }
-    let Got::Found(base) = fault::address(q.plain, b"BASE of --port", after(q.port, 1)) else {
-        return no_ports();
+    let Got::Found(base) = fault::address(rt, q.plain, b"BASE of --port", after(q.port, 1))? else {
+        return Ok(no_ports());
     };
-    let Got::Found(end) = fault::address(q.plain, b"END of --port", after(q.port, 2)) else {
-        return no_ports();
+    let Got::Found(end) = fault::address(rt, q.plain, b"END of --port", after(q.port, 2))? else {
+        return Ok(no_ports());
     };
-    let Got::Found(bus) = bits(q.plain, after(q.port, 3)) else {
-        return no_ports();
+    let Got::Found(bus) = bits(rt, q.plain, after(q.port, 3))? else {
+        return Ok(no_ports());
     };
-    ports_of(base, end, bus)
+    Ok(ports_of(base, end, bus))
 }
 
 fn no_numbers() -> Wanted {
@@ -144,41 +149,47 @@ fn no_numbers() -> Wanted {
 }
 
 // The numbers; the stop address and the budget may be left out.
-pub fn numbers(q: Request) -> Wanted {
-    let Got::Found(entry) = fault::address(q.plain, b"ENTRY", q.third) else {
-        return no_numbers();
+pub fn numbers(rt: &(impl Print + Env), q: Request) -> io::Result<Wanted> {
+    let Got::Found(entry) = fault::address(rt, q.plain, b"ENTRY", q.third)? else {
+        return Ok(no_numbers());
     };
-    let Got::Found(base) = fault::address(q.plain, b"BASE of --ram", after(q.ram, 1)) else {
-        return no_numbers();
+    let Got::Found(base) = fault::address(rt, q.plain, b"BASE of --ram", after(q.ram, 1))? else {
+        return Ok(no_numbers());
     };
     let Got::Found(length) = fault::number(
+        rt,
         q.plain,
         b"LENGTH of --ram",
         after(q.ram, 2),
         65536,
         b"an even number up to 65536",
-    ) else {
-        return no_numbers();
+    )?
+    else {
+        return Ok(no_numbers());
     };
     let Got::Found(stop) = optional(
+        rt,
         q.plain,
         b"--stop",
         q.stop,
         NEVER,
         b"an address up to 0xffffffff, decimal or 0x",
-    ) else {
-        return no_numbers();
+    )?
+    else {
+        return Ok(no_numbers());
     };
     let Got::Found(budget) = optional(
+        rt,
         q.plain,
         b"--budget",
         q.budget,
         1000000,
         b"a number of steps up to 1000000",
-    ) else {
-        return no_numbers();
+    )?
+    else {
+        return Ok(no_numbers());
     };
-    asked_for(entry, base, length, stop, budget)
+    Ok(asked_for(entry, base, length, stop, budget))
 }
 
 fn cleared(entry: u32) -> Begun {
@@ -208,47 +219,49 @@ fn with_er(s: Begun, n: u64, v: u64) -> Begun {
 }
 
 // The register that the option --er at argument i sets.
-fn er(plain: bool, s: Begun, i: usize) -> Begun {
+fn er(rt: &(impl Print + Env), plain: bool, s: Begun, i: usize) -> io::Result<Begun> {
     if s.bad {
-        return s;
+        return Ok(s);
     }
     let Got::Found(n) = fault::number(
+        rt,
         plain,
         b"N of --er",
         after(i, 1),
         7,
         b"a register's number, 0 to 7",
-    ) else {
-        return spoiled(s);
+    )?
+    else {
+        return Ok(spoiled(s));
     };
     let Got::Found(v) = fault::number(
+        rt,
         plain,
         b"VALUE of --er",
         after(i, 2),
         4294967295,
         b"a number up to 0xffffffff, decimal or 0x",
-    ) else {
-        return spoiled(s);
+    )?
+    else {
+        return Ok(spoiled(s));
     };
-    with_er(s, n, v)
+    Ok(with_er(s, n, v))
 }
 
 // What argument i sets.
-fn set_at(plain: bool, s: Begun, k: Kind, i: usize) -> Begun {
+fn set_at(rt: &(impl Print + Env), plain: bool, s: Begun, k: Kind, i: usize) -> io::Result<Begun> {
     if let Kind::ErOption = k {
-        er(plain, s, i)
+        er(rt, plain, s, i)
     } else {
-        s
+        Ok(s)
     }
 }
 
 // Registers are 0 but for those that --er sets, and PC, which is the entry; all flags are 0.
-pub fn start(plain: bool, count: usize, entry: u32) -> Begun {
+pub fn start(rt: &(impl Print + Env), plain: bool, count: usize, entry: u32) -> io::Result<Begun> {
     let mut s = cleared(entry);
-    let mut i: usize = 1;
-    while i < count {
-        s = set_at(plain, s, ask::kind_at(i), i);
-        i += 1;
+    for i in 1..count {
+        s = set_at(rt, plain, s, ask::kind_at(rt, i), i)?;
     }
-    s
+    Ok(s)
 }

@@ -1,5 +1,9 @@
 // The ROM's bytes from a file.
-use crate::fault;
+use crate::{ask, fault};
+use std::env::Env;
+use std::io::{ErrorKind, Read};
+use std::rt::Files;
+use std::{fs, io};
 
 #[derive(Clone, Copy)]
 pub enum Loaded {
@@ -7,106 +11,114 @@ pub enum Loaded {
     NotLoaded,
 }
 
-fn some(fd: i32, buf: &mut [u8], at: usize) -> isize {
+fn some(from: &mut impl Read, buf: &mut [u8], at: usize) -> io::Result<usize> {
     if at < buf.len() {
-        libc::read(fd, &mut buf[at..])
+        from.read(&mut buf[at..])
     } else {
-        0
+        Ok(0)
     }
 }
 
-// Reads until the file ends or the buffer is full. Each turn moves a byte or more.
-fn fill(fd: i32, buf: &mut [u8]) -> Loaded {
+// Reads until the file ends or the buffer is full, and says how many bytes. Each turn moves a byte or more.
+fn fill(from: &mut impl Read, buf: &mut [u8]) -> io::Result<usize> {
     let mut at: usize = 0;
-    let mut turns: u32 = 0xFFFFFFFF;
-    while 0 < turns {
-        let got = some(fd, buf, at);
-        if got < 0 {
-            return Loaded::NotLoaded;
-        }
+    for _ in 0..0xFFFFFFFFu32 {
+        let got = some(from, buf, at)?;
         if got == 0 {
-            return Loaded::Bytes(at);
+            return Ok(at);
         }
-        at = std::num::wrapping_add_usize(at, io::count(got, &buf[..]));
-        turns -= 1;
+        at = at.wrapping_add(got);
     }
-    Loaded::Bytes(at)
+    Ok(at)
 }
 
-fn read(path: &[u8], buf: &mut [u8]) -> Loaded {
-    let fd = os::open_read(path);
-    if fd < 0 {
-        return Loaded::NotLoaded;
-    }
-    fill(fd, buf)
-}
-
-// Why a file can't be read, by the system's number.
-fn reason(e: i32) {
-    if e == libc::ENOENT {
-        io::write_all(1, b"there is no such file\n");
-    } else if e == libc::EACCES {
-        io::write_all(1, b"it may not be read\n");
-    } else if e == libc::EISDIR {
-        io::write_all(1, b"it is a directory\n");
-    } else if e == libc::ENOTDIR {
-        io::write_all(1, b"a part of its path is no directory\n");
-    } else if e == libc::ENAMETOOLONG {
-        io::write_all(1, b"its name is too long\n");
-    } else {
-        io::write_all(1, b"the system refuses it\n");
+// The file that argument i names. A path is text here, so one of other bytes opens nothing.
+pub fn open<R: Env + Files>(rt: &R, i: usize) -> io::Result<R::File> {
+    let mut path = [0u8; ask::LONGEST];
+    let n = ask::bytes_at(rt, i, &mut path);
+    match std::str::from_utf8(&path[..n]) {
+        Ok(path) => fs::open(rt, path),
+        Err(_) => Err(io::Error::from(ErrorKind::InvalidData)),
     }
 }
 
-pub fn unread(plain: bool, name: &[u8], i: usize) {
-    let e = os::errno();
-    fault::named(plain, name, i, b" can't be read: ");
-    reason(e);
+fn read(rt: &(impl Env + Files), i: usize, buf: &mut [u8]) -> io::Result<usize> {
+    let mut file = open(rt, i)?;
+    fill(&mut file, buf)
 }
 
-fn odd(plain: bool, i: usize, n: usize) {
-    fault::file(plain, i, b" has ");
-    io::print_decimal(1, n as u64);
-    io::write_all(
-        1,
-        b" bytes: expected an even number of bytes, at most 524288\n",
-    );
+// Why a file can't be read, by the error's kind; InvalidData is that of a path that is no text.
+fn reason(k: ErrorKind) -> &'static [u8] {
+    match k {
+        ErrorKind::NotFound => b"there is no such file\n",
+        ErrorKind::PermissionDenied => b"it may not be read\n",
+        ErrorKind::IsADirectory => b"it is a directory\n",
+        ErrorKind::NotADirectory => b"a part of its path is no directory\n",
+        ErrorKind::InvalidFilename => b"its name is too long\n",
+        ErrorKind::InvalidData => b"its name is no UTF-8 text\n",
+        _ => b"the system refuses it\n",
+    }
 }
 
-fn fit(plain: bool, i: usize, n: usize) -> Loaded {
+pub fn unread(
+    rt: &(impl Print + Env),
+    plain: bool,
+    name: &[u8],
+    i: usize,
+    e: io::Error,
+) -> io::Result<()> {
+    fault::named(rt, plain, name, i, b" can't be read: ")?;
+    rt.write_all(reason(e.kind()))
+}
+
+fn odd(rt: &(impl Print + Env), plain: bool, i: usize, n: usize) -> io::Result<()> {
+    fault::file(rt, plain, i, b" has ")?;
+    println!(rt; "{n} bytes: expected an even number of bytes, at most 524288")
+}
+
+fn fit(rt: &(impl Print + Env), plain: bool, i: usize, n: usize) -> io::Result<Loaded> {
     if 524288 < n {
         fault::file(
+            rt,
             plain,
             i,
             b" has more than 524288 bytes: expected an even number of bytes, at most 524288\n",
-        );
-        return Loaded::NotLoaded;
+        )?;
+        return Ok(Loaded::NotLoaded);
     }
     if n % 2 != 0 {
-        odd(plain, i, n);
-        return Loaded::NotLoaded;
+        odd(rt, plain, i, n)?;
+        return Ok(Loaded::NotLoaded);
     }
-    Loaded::Bytes(n)
+    Ok(Loaded::Bytes(n))
 }
 
-fn checked(plain: bool, i: usize, f: Loaded) -> Loaded {
+fn checked(
+    rt: &(impl Print + Env),
+    plain: bool,
+    i: usize,
+    f: io::Result<usize>,
+) -> io::Result<Loaded> {
     match f {
-        Loaded::Bytes(n) => fit(plain, i, n),
-        Loaded::NotLoaded => {
-            unread(plain, b"ROM", i);
-            Loaded::NotLoaded
+        Ok(n) => fit(rt, plain, i, n),
+        Err(e) => {
+            unread(rt, plain, b"ROM", i, e)?;
+            Ok(Loaded::NotLoaded)
         }
     }
 }
 
 // The file that argument i names, into `rom`, which is longer than any ROM.
-pub fn load(plain: bool, i: usize, rom: &mut [u8]) -> Loaded {
+pub fn load(
+    rt: &(impl Print + Env + Files),
+    plain: bool,
+    i: usize,
+    rom: &mut [u8],
+) -> io::Result<Loaded> {
     if i == 0 {
-        fault::missing(plain, b"ROM", b"a file");
-        return Loaded::NotLoaded;
+        fault::missing(rt, plain, b"ROM", b"a file")?;
+        return Ok(Loaded::NotLoaded);
     }
-    let mut path = io::buffer();
-    let n = os::arg(i, &mut path);
-    let f = read(&path[..n], rom);
-    checked(plain, i, f)
+    let f = read(rt, i, rom);
+    checked(rt, plain, i, f)
 }

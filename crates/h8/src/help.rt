@@ -1,7 +1,8 @@
 // What `h8` alone and `h8 help` print.
-pub fn show_help() {
-    io::write_all(
-        1,
+use std::io;
+
+pub fn show_help(rt: &impl Print) -> io::Result<()> {
+    rt.write_all(
         b"h8: how long a routine of an H8/300H ROM can take, in states; every answer is that of a proved library
 
   h8 figure ROM ENTRY [GAP]      the longest way from ENTRY to its RTS, in states; whether it fits GAP states
@@ -30,5 +31,5 @@ The sample's sheet routine begins at 0x0100; between two sheets there are 160 st
   ./h8 figure samples/sheet.bin 0x100 160                                           the longest way: 194
   ./h8 way samples/sheet.bin 0x100                                                  where they go
 ",
-    );
+    )
 }

@@ -19,6 +19,10 @@ use file::Loaded;
 use lines::Gap;
 use refusal::Refusal;
 use site::Site;
+use std::env::Env;
+use std::io;
+use std::io::ErrorKind;
+use std::rt::Runtime;
 
 fn either(a: usize, b: usize) -> usize {
     if a != 0 { a } else { b }
@@ -62,32 +66,41 @@ fn strayed(q: Request, u: Use) -> usize {
 }
 
 // Whether argument i is wrong; then a line has said so.
-fn told(plain: bool, name: &[u8], i: usize, expected: &[u8]) -> bool {
+fn told(
+    rt: &(impl Print + Env),
+    plain: bool,
+    name: &[u8],
+    i: usize,
+    expected: &[u8],
+) -> io::Result<bool> {
     if i != 0 {
-        fault::wrong(plain, name, i, expected);
+        fault::wrong(rt, plain, name, i, expected)?;
     }
-    i != 0
+    Ok(i != 0)
 }
 
 // Whether an option stands beside a use that has no place for it; then a line has said so.
-fn out_of_place(q: Request, u: Use) -> bool {
+fn out_of_place(rt: &(impl Print + Env), q: Request, u: Use) -> io::Result<bool> {
     if told(
+        rt,
         q.plain,
         b"the option",
         astray(q, u),
         b"it with `h8 run` only",
-    ) {
-        return true;
+    )? {
+        return Ok(true);
     }
     if told(
+        rt,
         q.plain,
         b"the option",
         not_deep(q, u),
         b"it with `h8 way` only",
-    ) {
-        return true;
+    )? {
+        return Ok(true);
     }
     told(
+        rt,
         q.plain,
         b"the option",
         strayed(q, u),
@@ -96,32 +109,35 @@ fn out_of_place(q: Request, u: Use) -> bool {
 }
 
 // Whether a word or an option is wrong; then a line has said so.
-fn faulty(q: Request, u: Use) -> bool {
+fn faulty(rt: &(impl Print + Env), q: Request, u: Use) -> io::Result<bool> {
     if told(
+        rt,
         q.plain,
         b"the option",
         q.unknown,
         b"--plain, --port, --ram, --budget, --stop, --er, --routine, --trace or --deep; `h8 help` says more",
-    ) {
-        return true;
+    )? {
+        return Ok(true);
     }
     if told(
+        rt,
         q.plain,
         b"a word too many",
         surplus(q, u),
         b"what `h8 help` says",
-    ) {
-        return true;
+    )? {
+        return Ok(true);
     }
-    out_of_place(q, u)
+    out_of_place(rt, q, u)
 }
 
 fn wide(v: u64) -> usize {
     v as usize
 }
 
-fn gap(q: Request) -> Got {
+fn gap(rt: &(impl Print + Env), q: Request) -> io::Result<Got> {
     fault::number(
+        rt,
         q.plain,
         b"GAP",
         q.fourth,
@@ -131,68 +147,122 @@ fn gap(q: Request) -> Got {
 }
 
 // A refusal; 1 can lie only in the ports, since the ROM's length was looked at.
-fn refused(plain: bool, k: Site, rom: &[u8], f: Refusal) {
+fn refused(rt: &impl Print, plain: bool, k: Site, rom: &[u8], f: Refusal) -> io::Result<()> {
     if f.number() == 1 {
         let area = k.area;
-        show::write(lines::ports_wrong(text::blank(), rom, area, plain));
+        show::write(rt, lines::ports_wrong(text::blank(), rom, area, plain))
     } else {
-        show::write(wording::parts::refused(text::blank(), rom, f, plain));
+        show::write(rt, wording::parts::refused(text::blank(), rom, f, plain))
     }
 }
 
-fn figure_of(plain: bool, k: Site, rom: &[u8], table: &mut [u64], entry: u32, gap: Gap) {
+fn figure_of(
+    rt: &impl Print,
+    plain: bool,
+    k: Site,
+    rom: &[u8],
+    table: &mut [u64],
+    entry: u32,
+    gap: Gap,
+) -> io::Result<()> {
     let v = figure::figure(k, rom, entry, table);
     match v {
-        Verdict::Longest(_) => show::write(lines::figure(text::blank(), rom, v, entry, gap, plain)),
-        Verdict::Forbids(f) => refused(plain, k, rom, f),
+        Verdict::Longest(_) => {
+            let line = lines::figure(text::blank(), rom, v, entry, gap, plain);
+            show::write(rt, line)
+        }
+        Verdict::Forbids(f) => refused(rt, plain, k, rom, f),
     }
 }
 
-fn figure_in(q: Request, k: Site, rom: &[u8], table: &mut [u64], entry: u32) {
-    let Got::Found(states) = gap(q) else {
-        return;
+fn figure_in(
+    rt: &(impl Print + Env),
+    q: Request,
+    k: Site,
+    rom: &[u8],
+    table: &mut [u64],
+    entry: u32,
+) -> io::Result<()> {
+    let Got::Found(states) = gap(rt, q)? else {
+        return Ok(());
     };
-    figure_of(q.plain, k, rom, table, entry, Gap::States(states));
+    figure_of(rt, q.plain, k, rom, table, entry, Gap::States(states))
 }
 
-fn figure(q: Request, k: Site, rom: &[u8], table: &mut [u64]) {
-    let Got::Found(entry) = fault::address(q.plain, b"ENTRY", q.third) else {
-        return;
+fn figure(
+    rt: &(impl Print + Env),
+    q: Request,
+    k: Site,
+    rom: &[u8],
+    table: &mut [u64],
+) -> io::Result<()> {
+    let Got::Found(entry) = fault::address(rt, q.plain, b"ENTRY", q.third)? else {
+        return Ok(());
     };
     if q.fourth == 0 {
-        figure_of(q.plain, k, rom, table, asked::small(entry), Gap::NoGap);
+        figure_of(rt, q.plain, k, rom, table, asked::small(entry), Gap::NoGap)
     } else {
-        figure_in(q, k, rom, table, asked::small(entry));
+        figure_in(rt, q, k, rom, table, asked::small(entry))
     }
 }
 
-fn way_of(q: Request, k: Site, rom: &[u8], table: &mut [u64], entry: u32) {
+fn way_of(
+    rt: &impl Print,
+    q: Request,
+    k: Site,
+    rom: &[u8],
+    table: &mut [u64],
+    entry: u32,
+) -> io::Result<()> {
     match figure::figure(k, rom, entry, table) {
-        Verdict::Longest(n) => places::way(k, rom, &table[..], entry, n, q.deep != 0, q.plain),
-        Verdict::Forbids(f) => refused(q.plain, k, rom, f),
+        Verdict::Longest(n) => {
+            places::way(rt, k, rom, &table[..], entry, n, q.deep != 0, q.plain)
+        }
+        Verdict::Forbids(f) => refused(rt, q.plain, k, rom, f),
     }
 }
 
-fn way(q: Request, k: Site, rom: &[u8], table: &mut [u64]) {
-    let Got::Found(entry) = fault::address(q.plain, b"ENTRY", q.third) else {
-        return;
+fn way(
+    rt: &(impl Print + Env),
+    q: Request,
+    k: Site,
+    rom: &[u8],
+    table: &mut [u64],
+) -> io::Result<()> {
+    let Got::Found(entry) = fault::address(rt, q.plain, b"ENTRY", q.third)? else {
+        return Ok(());
     };
-    way_of(q, k, rom, table, asked::small(entry));
+    way_of(rt, q, k, rom, table, asked::small(entry))
 }
 
-fn word_or(q: Request, name: &[u8], i: usize, otherwise: u64) -> Got {
+fn word_or(
+    rt: &(impl Print + Env),
+    q: Request,
+    name: &[u8],
+    i: usize,
+    otherwise: u64,
+) -> io::Result<Got> {
     if i == 0 {
-        return Got::Found(otherwise);
+        return Ok(Got::Found(otherwise));
     }
-    fault::address(q.plain, name, i)
+    fault::address(rt, q.plain, name, i)
 }
 
-fn listed(plain: bool, k: Site, rom: &[u8], table: &[u64], from: usize, to: usize, n: u32) {
+fn listed(
+    rt: &impl Print,
+    plain: bool,
+    k: Site,
+    rom: &[u8],
+    table: &[u64],
+    from: usize,
+    to: usize,
+    n: u32,
+) -> io::Result<()> {
     if n == 1 {
         let area = k.area;
-        show::write(lines::ports_wrong(text::blank(), rom, area, plain));
+        show::write(rt, lines::ports_wrong(text::blank(), rom, area, plain))
     } else {
-        places::list(k, rom, table, from, to, plain);
+        places::list(rt, k, rom, table, from, to, plain)
     }
 }
 
@@ -204,139 +274,191 @@ fn number(v: Verdict) -> u32 {
     }
 }
 
-fn list_of(plain: bool, k: Site, rom: &[u8], table: &mut [u64], from: usize, to: usize) {
+fn list_of(
+    rt: &impl Print,
+    plain: bool,
+    k: Site,
+    rom: &[u8],
+    table: &mut [u64],
+    from: usize,
+    to: usize,
+) -> io::Result<()> {
     let n = number(figure::figure(k, rom, 0, table));
-    listed(plain, k, rom, &table[..], from, to, n);
+    listed(rt, plain, k, rom, &table[..], from, to, n)
 }
 
 // Whether the first place can't be listed; then a line has said so.
-fn no_start(q: Request, rom: &[u8], from: usize) -> bool {
+fn no_start(rt: &(impl Print + Env), q: Request, rom: &[u8], from: usize) -> io::Result<bool> {
     if rom.len() == 0 {
-        fault::file(q.plain, q.second, b" is empty: there is nothing to list\n");
-        return true;
+        let what = b" is empty: there is nothing to list\n";
+        fault::file(rt, q.plain, q.second, what)?;
+        return Ok(true);
     }
     let bad = (from % 2 != 0) | (rom.len() <= from);
     if bad {
-        fault::wrong(q.plain, b"FROM", q.third, b"an even address inside the ROM");
+        let expected = b"an even address inside the ROM";
+        fault::wrong(rt, q.plain, b"FROM", q.third, expected)?;
     }
-    bad
+    Ok(bad)
 }
 
-fn list_from(q: Request, k: Site, rom: &[u8], table: &mut [u64], from: usize, to: usize) {
-    if no_start(q, rom, from) {
-        return;
+fn list_from(
+    rt: &(impl Print + Env),
+    q: Request,
+    k: Site,
+    rom: &[u8],
+    table: &mut [u64],
+    from: usize,
+    to: usize,
+) -> io::Result<()> {
+    if no_start(rt, q, rom, from)? {
+        return Ok(());
     }
     if to < from {
-        fault::wrong(q.plain, b"TO", q.fourth, b"an address not below FROM");
-        return;
+        return fault::wrong(rt, q.plain, b"TO", q.fourth, b"an address not below FROM");
     }
-    list_of(q.plain, k, rom, table, from, to);
+    list_of(rt, q.plain, k, rom, table, from, to)
 }
 
-fn list(q: Request, k: Site, rom: &[u8], table: &mut [u64]) {
-    let Got::Found(from) = word_or(q, b"FROM", q.third, 0) else {
-        return;
+fn list(
+    rt: &(impl Print + Env),
+    q: Request,
+    k: Site,
+    rom: &[u8],
+    table: &mut [u64],
+) -> io::Result<()> {
+    let Got::Found(from) = word_or(rt, q, b"FROM", q.third, 0)? else {
+        return Ok(());
     };
-    let Got::Found(to) = word_or(q, b"TO", q.fourth, 4294967295) else {
-        return;
+    let Got::Found(to) = word_or(rt, q, b"TO", q.fourth, 4294967295)? else {
+        return Ok(());
     };
-    list_from(q, k, rom, table, wide(from), wide(to));
+    list_from(rt, q, k, rom, table, wide(from), wide(to))
 }
 
-fn answer(q: Request, u: Use, k: Site, rom: &[u8], table: &mut [u64]) {
+fn answer(
+    rt: &(impl Print + Env),
+    q: Request,
+    u: Use,
+    k: Site,
+    rom: &[u8],
+    table: &mut [u64],
+) -> io::Result<()> {
     if let Use::ForFigure = u {
-        figure(q, k, rom, table);
+        figure(rt, q, k, rom, table)
     } else if let Use::ForWay = u {
-        way(q, k, rom, table);
+        way(rt, q, k, rom, table)
     } else {
-        list(q, k, rom, table);
+        list(rt, q, k, rom, table)
     }
 }
 
 // Without --port there are none, as on a board whose area is empty.
-fn with_ports(q: Request, u: Use, rom: &[u8], table: &mut [u64]) {
-    let p = asked::ports(q, 16777216);
+fn with_ports(
+    rt: &(impl Print + Env),
+    q: Request,
+    u: Use,
+    rom: &[u8],
+    table: &mut [u64],
+) -> io::Result<()> {
+    let p = asked::ports(rt, q, 16777216)?;
     if !p.bad {
         let area = p.area;
-        answer(q, u, Site { area }, rom, table);
+        answer(rt, q, u, Site { area }, rom, table)?;
     }
+    Ok(())
 }
 
-fn with_file(q: Request, u: Use, rom: &mut [u8], table: &mut [u64]) {
-    let Loaded::Bytes(n) = file::load(q.plain, q.second, rom) else {
-        return;
+fn with_file(
+    rt: &impl Runtime,
+    q: Request,
+    u: Use,
+    rom: &mut [u8],
+    table: &mut [u64],
+) -> io::Result<()> {
+    let Loaded::Bytes(n) = file::load(rt, q.plain, q.second, rom)? else {
+        return Ok(());
     };
     if n <= rom.len() {
-        with_ports(q, u, &rom[0..n], table);
+        with_ports(rt, q, u, &rom[0..n], table)?;
     }
-}
-
-// Arrays, so that their lengths need no proof.
-fn with_arrays(q: Request, u: Use, rom: &mut [u8; 524290], table: &mut [u64; 524288]) {
-    with_file(q, u, rom, table);
+    Ok(())
 }
 
 // Room for the longest ROM and two bytes more, by which a longer file is found, and a table for it.
-fn with_room(q: Request, u: Use) {
-    let mut rom = [0u8; 524290];
-    let mut table = [0u64; 524288];
-    with_arrays(q, u, &mut rom, &mut table);
+fn with_room(rt: &impl Runtime, q: Request, u: Use) -> io::Result<()> {
+    let mut rom = vec![in rt.alloc(); 0u8; 524290]?;
+    let mut table = vec![in rt.alloc(); 0u64; 524288]?;
+    with_file(rt, q, u, rom.as_mut_slice(), table.as_mut_slice())
 }
 
-fn run_or_replay(q: Request, u: Use, rom: &[u8], ram: &mut [u8], again: &mut [u8]) {
-    if let Use::ForRun = u {
-        runs::show_run(q, rom, ram, again);
-    } else {
-        replays::show_replay(q, rom, ram);
-    }
-}
-
-fn run_file(q: Request, u: Use, rom: &mut [u8], ram: &mut [u8], again: &mut [u8]) {
-    let Loaded::Bytes(n) = file::load(q.plain, q.second, rom) else {
-        return;
-    };
-    if n <= rom.len() {
-        run_or_replay(q, u, &rom[0..n], ram, again);
-    }
-}
-
-fn run_arrays(
+fn run_or_replay(
+    rt: &impl Runtime,
     q: Request,
     u: Use,
-    rom: &mut [u8; 524290],
-    ram: &mut [u8; 65536],
-    again: &mut [u8; 65536],
-) {
-    run_file(q, u, rom, ram, again);
+    rom: &[u8],
+    ram: &mut [u8],
+    again: &mut [u8],
+) -> io::Result<()> {
+    if let Use::ForRun = u {
+        runs::show_run(rt, q, rom, ram, again)
+    } else {
+        replays::show_replay(rt, q, rom, ram)
+    }
+}
+
+fn run_file(
+    rt: &impl Runtime,
+    q: Request,
+    u: Use,
+    rom: &mut [u8],
+    ram: &mut [u8],
+    again: &mut [u8],
+) -> io::Result<()> {
+    let Loaded::Bytes(n) = file::load(rt, q.plain, q.second, rom)? else {
+        return Ok(());
+    };
+    if n <= rom.len() {
+        run_or_replay(rt, q, u, &rom[0..n], ram, again)?;
+    }
+    Ok(())
 }
 
 // The same for a run or a replay, with the longest working memory, and one more for the trace of a run.
-fn run_room(q: Request, u: Use) {
-    let mut rom = [0u8; 524290];
+fn run_room(rt: &impl Runtime, q: Request, u: Use) -> io::Result<()> {
+    let mut rom = vec![in rt.alloc(); 0u8; 524290]?;
     let mut ram = [0u8; 65536];
     let mut again = [0u8; 65536];
-    run_arrays(q, u, &mut rom, &mut ram, &mut again);
+    run_file(rt, q, u, rom.as_mut_slice(), &mut ram, &mut again)
 }
 
-fn main() {
-    if ask::asks_help() {
-        help::show_help();
-        return;
+fn tool(rt: &impl Runtime) -> io::Result<()> {
+    if ask::asks_help(rt) {
+        return help::show_help(rt);
     }
-    let q = ask::requested();
-    let u = ask::use_at(q.first);
-    if faulty(q, u) {
-        return;
+    let q = ask::requested(rt);
+    let u = ask::use_at(rt, q.first);
+    if faulty(rt, q, u)? {
+        return Ok(());
     }
     match u {
-        Use::ForFigure | Use::ForWay | Use::ForList => with_room(q, u),
-        Use::ForRun | Use::ForReplay => run_room(q, u),
-        Use::ForHelp => help::show_help(),
+        Use::ForFigure | Use::ForWay | Use::ForList => with_room(rt, q, u),
+        Use::ForRun | Use::ForReplay => run_room(rt, q, u),
+        Use::ForHelp => help::show_help(rt),
         Use::NoUse => fault::wrong(
+            rt,
             q.plain,
             b"the use",
             q.first,
             b"figure, way, list, run, replay or help",
         ),
+    }
+}
+
+// Who reads the output may want no more of it; that is no error.
+fn main(rt: HostRuntime) -> io::Result<()> {
+    match tool(&rt) {
+        Err(e) if e.kind() == ErrorKind::BrokenPipe => Ok(()),
+        ended => ended,
     }
 }

@@ -2,6 +2,7 @@
 use crate::show;
 use paths::WayOn;
 use site::Site;
+use std::io;
 
 const NONE: u32 = 16777215;
 
@@ -15,21 +16,27 @@ fn next(w: WayOn) -> u32 {
 }
 
 // Places rise along a way, so it has no more turns than the ROM has bytes.
-fn follow(k: Site, rom: &[u8], table: &[u64], entry: u32, plain: bool) {
+fn follow(
+    rt: &impl Print,
+    k: Site,
+    rom: &[u8],
+    table: &[u64],
+    entry: u32,
+    plain: bool,
+) -> io::Result<()> {
     let mut p = entry;
     let mut total: u64 = 0;
-    let mut turns = rom.len();
-    while 0 < turns {
+    for _ in 0..rom.len() {
         total = lines::total(k, rom, p, total);
-        show::write(lines::on_way(k, rom, p, total, plain));
+        show::write(rt, lines::on_way(k, rom, p, total, plain))?;
         total = lines::with_call(k, rom, table, p, total);
-        show::write(lines::on_call(k, rom, table, p, total, plain));
+        show::write(rt, lines::on_call(k, rom, table, p, total, plain))?;
         p = next(figure::way(k, rom, table, p));
         if p == NONE {
-            return;
+            return Ok(());
         }
-        turns -= 1;
     }
+    Ok(())
 }
 
 // A place of a way that goes into the routines that it calls, with where these return to.
@@ -80,53 +87,91 @@ fn onward(k: Site, rom: &[u8], table: &[u64], w: Within) -> Within {
 }
 
 // A figure is at most 1,000,000,000 states, and each place of a way takes some: it has no more turns.
-fn descend(k: Site, rom: &[u8], table: &[u64], entry: u32, plain: bool) {
+fn descend(
+    rt: &impl Print,
+    k: Site,
+    rom: &[u8],
+    table: &[u64],
+    entry: u32,
+    plain: bool,
+) -> io::Result<()> {
     let mut w = at(entry, 0, [0u32; 8]);
     let mut total: u64 = 0;
-    let mut turns: u32 = 1000000000;
-    while 0 < turns {
+    for _ in 0..1000000000u32 {
         total = lines::total(k, rom, w.place, total);
-        show::write(lines::level(w.depth, plain));
-        show::write(lines::on_way(k, rom, w.place, total, plain));
+        show::write(rt, lines::level(w.depth, plain))?;
+        show::write(rt, lines::on_way(k, rom, w.place, total, plain))?;
         w = onward(k, rom, table, w);
         if w.place == NONE {
-            return;
+            return Ok(());
         }
-        turns -= 1;
     }
+    Ok(())
 }
 
-fn go(k: Site, rom: &[u8], table: &[u64], entry: u32, deep: bool, plain: bool) {
+fn go(
+    rt: &impl Print,
+    k: Site,
+    rom: &[u8],
+    table: &[u64],
+    entry: u32,
+    deep: bool,
+    plain: bool,
+) -> io::Result<()> {
     if deep {
-        descend(k, rom, table, entry, plain);
+        descend(rt, k, rom, table, entry, plain)
     } else {
-        follow(k, rom, table, entry, plain);
+        follow(rt, k, rom, table, entry, plain)
     }
 }
 
 // The longest way from an entry, of n states, by a table that figure filled; `deep` with the ways through what it calls.
-pub fn way(k: Site, rom: &[u8], table: &[u64], entry: u32, n: u64, deep: bool, plain: bool) {
-    show::write(lines::way_heading(text::blank(), plain));
-    go(k, rom, table, entry, deep, plain);
-    show::write(lines::longest(text::blank(), entry, n, plain));
+pub fn way(
+    rt: &impl Print,
+    k: Site,
+    rom: &[u8],
+    table: &[u64],
+    entry: u32,
+    n: u64,
+    deep: bool,
+    plain: bool,
+) -> io::Result<()> {
+    show::write(rt, lines::way_heading(text::blank(), plain))?;
+    go(rt, k, rom, table, entry, deep, plain)?;
+    show::write(rt, lines::longest(text::blank(), entry, n, plain))
 }
 
 // The places from `from` to `to`, both included; each has a byte or more, so there are no more turns than the ROM has bytes.
-fn places(k: Site, rom: &[u8], table: &[u64], from: usize, to: usize, plain: bool) {
+fn places(
+    rt: &impl Print,
+    k: Site,
+    rom: &[u8],
+    table: &[u64],
+    from: usize,
+    to: usize,
+    plain: bool,
+) -> io::Result<()> {
     let mut p = from;
-    let mut turns = rom.len();
-    while 0 < turns {
+    for _ in 0..rom.len() {
         if (to < p) | (rom.len() <= p) {
-            return;
+            return Ok(());
         }
         let at = (p % 16777216) as u32;
-        show::write(lines::listed(k, rom, table, at, plain));
-        p = std::num::wrapping_add_usize(p, lines::length_at(rom, at) as usize);
-        turns -= 1;
+        show::write(rt, lines::listed(k, rom, table, at, plain))?;
+        p = p.wrapping_add(lines::length_at(rom, at) as usize);
     }
+    Ok(())
 }
 
-pub fn list(k: Site, rom: &[u8], table: &[u64], from: usize, to: usize, plain: bool) {
-    show::write(lines::list_heading(text::blank(), plain));
-    places(k, rom, table, from, to, plain);
+pub fn list(
+    rt: &impl Print,
+    k: Site,
+    rom: &[u8],
+    table: &[u64],
+    from: usize,
+    to: usize,
+    plain: bool,
+) -> io::Result<()> {
+    show::write(rt, lines::list_heading(text::blank(), plain))?;
+    places(rt, k, rom, table, from, to, plain)
 }

@@ -1,20 +1,23 @@
 // h8 replay: the recording is read in blocks as long as they come, from a file or a pipe, so it need not fit anywhere.
 use crate::ask::Request;
-use crate::{asked, fault, file, show};
+use crate::{ask, asked, fault, file, show};
 use memory::Board;
 use registers::Registers;
 use replay::{Field, Report, Stage, Standing};
 use run::{Ending, RunAnswer};
 use runlines::Given;
 use site::Site;
+use std::env::Env;
+use std::io;
+use std::io::{Input, Read};
+use std::rt::Runtime;
 
-// Where the replay stands, how many bytes it was fed, whether there is nothing more to read for it, and whether reading failed.
+// Where the replay stands, how many bytes it was fed, and whether there is nothing more to read for it.
 #[derive(Clone, Copy)]
 struct Reached {
     standing: Standing,
     bytes: u64,
     over: bool,
-    failed: bool,
 }
 
 fn told(g: Stage) -> bool {
@@ -28,14 +31,13 @@ fn told(g: Stage) -> bool {
 
 // The last eleven bytes of a block that lie below `end`, each where it stands in its record; `before` bytes came before the block.
 fn note(rec: &mut [u8; 11], block: &[u8], before: u64, end: u64) {
-    let mut i: usize = 0;
-    while i < block.len() {
-        let p = std::num::wrapping_add_u64(before, i as u64);
+    let mut p = before;
+    for x in block {
         if (0 < p) & (p < end) {
-            let k = (std::num::wrapping_add_u64(p, 10) % 11) as usize;
-            rec[k] = block[i];
+            let k = (p.wrapping_add(10) % 11) as usize;
+            rec[k] = *x;
         }
-        i += 1;
+        p = p.wrapping_add(1);
     }
 }
 
@@ -44,16 +46,15 @@ fn end_of(records: u32) -> u64 {
     (records as u64) * 11 + 12
 }
 
-// A line for each hundred thousand records, where the answers are not printed.
-fn moves(before: u32, after: u32) {
+// A line for each hundred thousand records, where the answers are not printed. The answer does not wait on it, so it may fail.
+fn moves(rt: &impl Eprint, before: u32, after: u32) {
     if before / 100000 < after / 100000 {
-        io::write_all(2, b"h8: records that agree so far: ");
-        io::print_decimal(2, after as u64);
-        io::write_all(2, b"\n");
+        let _ = eprintln!(rt; "h8: records that agree so far: {after}");
     }
 }
 
 fn fed(
+    rt: &impl Eprint,
     f: Reached,
     b: Board,
     rom: &[u8],
@@ -64,59 +65,60 @@ fn fed(
     let k = f.standing;
     let q = replay::feed(k, b, rom, ram, block);
     note(rec, block, f.bytes, end_of(q.steps));
-    moves(k.steps, q.steps);
+    moves(rt, k.steps, q.steps);
     let g = q.stage;
     Reached {
         standing: q,
-        bytes: std::num::wrapping_add_u64(f.bytes, block.len() as u64),
+        bytes: f.bytes.wrapping_add(block.len() as u64),
         over: told(g),
-        failed: false,
     }
 }
 
-fn ended(f: Reached, failed: bool) -> Reached {
+fn ended(f: Reached) -> Reached {
     let k = f.standing;
     Reached {
         standing: k,
         bytes: f.bytes,
         over: true,
-        failed: failed,
     }
 }
 
-// The next block.
-fn turn(fd: i32, f: Reached, b: Board, rom: &[u8], ram: &mut [u8], rec: &mut [u8; 11]) -> Reached {
-    let mut buf = io::buffer();
-    let got = libc::read(fd, &mut buf[..]);
-    if got < 1 {
-        return ended(f, got < 0);
-    }
-    let n = io::count(got, &buf[..]);
-    if buf.len() < n {
-        return f;
-    }
-    fed(f, b, rom, ram, &buf[0..n], rec)
-}
-
-// Until the recording ends or the replay has told. Each turn takes a byte or more.
-fn follow(
-    fd: i32,
+// The next block, as long as it comes. An error is that of reading, here and below.
+fn turn(
+    rt: &impl Eprint,
+    from: &mut impl Read,
     f: Reached,
     b: Board,
     rom: &[u8],
     ram: &mut [u8],
     rec: &mut [u8; 11],
-) -> Reached {
-    let mut q = f;
-    let mut turns: u32 = 0xFFFFFFFF;
-    while 0 < turns {
-        if q.over {
-            return q;
-        }
-        q = turn(fd, q, b, rom, ram, rec);
-        turns -= 1;
+) -> io::Result<Reached> {
+    let mut buf = [0u8; 4096];
+    let n = from.read(&mut buf)?;
+    if n == 0 {
+        return Ok(ended(f));
     }
-    q
+    Ok(fed(rt, f, b, rom, ram, &buf[..n], rec))
+}
+
+// Until the recording ends or the replay has told. Each turn takes a byte or more.
+fn follow(
+    rt: &impl Eprint,
+    from: &mut impl Read,
+    f: Reached,
+    b: Board,
+    rom: &[u8],
+    ram: &mut [u8],
+    rec: &mut [u8; 11],
+) -> io::Result<Reached> {
+    let mut q = f;
+    for _ in 0..0xFFFFFFFFu32 {
+        if q.over {
+            return Ok(q);
+        }
+        q = turn(rt, from, q, b, rom, ram, rec)?;
+    }
+    Ok(q)
 }
 
 // A number with a byte more below it.
@@ -142,11 +144,12 @@ fn here(k: Standing, f: Field) -> u32 {
     }
 }
 
-fn counts(k: Standing, first: &[u8], plain: bool) {
-    show::write(runlines::replayed(text::blank(), first, k.steps, b", states ", k.states, plain));
+fn counts(rt: &impl Print, k: Standing, first: &[u8], plain: bool) -> io::Result<()> {
+    let line = runlines::replayed(text::blank(), first, k.steps, b", states ", k.states, plain);
+    show::write(rt, line)
 }
 
-fn registers(k: Standing, plain: bool) {
+fn registers(rt: &impl Print, k: Standing, plain: bool) -> io::Result<()> {
     let r = k.regs;
     let a = RunAnswer {
         regs: r,
@@ -154,44 +157,73 @@ fn registers(k: Standing, plain: bool) {
         states: k.states,
         why: Ending::Spent,
     };
-    show::write(runlines::registers(text::blank(), a, plain));
+    show::write(rt, runlines::registers(text::blank(), a, plain))
 }
 
-fn differs(rom: &[u8], k: Standing, f: Field, rec: &[u8; 11], plain: bool) {
+fn differs(
+    rt: &impl Print,
+    rom: &[u8],
+    k: Standing,
+    f: Field,
+    rec: &[u8; 11],
+    plain: bool,
+) -> io::Result<()> {
     let r = k.regs;
-    let n = std::num::wrapping_add_u32(k.steps, 1);
-    show::write(runlines::differs(text::blank(), n, f, here(k, f), recorded(rec, f), plain));
-    show::write(runlines::there(text::blank(), rom, r.pc, plain));
-    counts(k, b"before it: records ", plain);
-    registers(k, plain);
+    let n = k.steps.wrapping_add(1);
+    let line = runlines::differs(text::blank(), n, f, here(k, f), recorded(rec, f), plain);
+    show::write(rt, line)?;
+    show::write(rt, runlines::there(text::blank(), rom, r.pc, plain))?;
+    counts(rt, k, b"before it: records ", plain)?;
+    registers(rt, k, plain)
 }
 
-fn halted(rom: &[u8], k: Standing, f: refusal::Refusal, g: Given, plain: bool) {
+fn halted(
+    rt: &impl Print,
+    rom: &[u8],
+    k: Standing,
+    f: refusal::Refusal,
+    g: Given,
+    plain: bool,
+) -> io::Result<()> {
     if f.number() == 1 {
-        show::write(runlines::wrong(text::blank(), g, f, plain));
-    } else {
-        show::write(runlines::stopped(text::blank(), rom, f, plain));
-        counts(k, b"before it: records ", plain);
-        registers(k, plain);
+        return show::write(rt, runlines::wrong(text::blank(), g, f, plain));
     }
+    show::write(rt, runlines::stopped(text::blank(), rom, f, plain))?;
+    counts(rt, k, b"before it: records ", plain)?;
+    registers(rt, k, plain)
 }
 
-fn agreed(k: Standing, plain: bool) {
-    counts(k, b"all records agree: records ", plain);
-    registers(k, plain);
+fn agreed(rt: &impl Print, k: Standing, plain: bool) -> io::Result<()> {
+    counts(rt, k, b"all records agree: records ", plain)?;
+    registers(rt, k, plain)
 }
 
-fn answer(rom: &[u8], k: Standing, g: Given, rec: &[u8; 11], plain: bool) {
+fn answer(
+    rt: &impl Print,
+    rom: &[u8],
+    k: Standing,
+    g: Given,
+    rec: &[u8; 11],
+    plain: bool,
+) -> io::Result<()> {
     let e = replay::end(k);
     let t = e.report;
     match t {
-        Report::Agreed => agreed(k, plain),
-        Report::Differs(f) => differs(rom, k, f, rec, plain),
-        Report::Halted(f) => halted(rom, k, f, g, plain),
+        Report::Agreed => agreed(rt, k, plain),
+        Report::Differs(f) => differs(rt, rom, k, f, rec, plain),
+        Report::Halted(f) => halted(rt, rom, k, f, g, plain),
     }
 }
 
-fn recording(q: Request, fd: i32, rom: &[u8], ram: &mut [u8], g: Given, r: Registers) {
+fn recording(
+    rt: &(impl Print + Eprint + Env),
+    q: Request,
+    from: &mut impl Read,
+    rom: &[u8],
+    ram: &mut [u8],
+    g: Given,
+    r: Registers,
+) -> io::Result<()> {
     let area = g.area;
     let site = Site { area };
     let b = Board { base: g.base, site };
@@ -201,73 +233,91 @@ fn recording(q: Request, fd: i32, rom: &[u8], ram: &mut [u8], g: Given, r: Regis
         standing: k,
         bytes: 0,
         over: told(stage),
-        failed: false,
     };
     let mut rec = [0u8; 11];
-    let e = follow(fd, f, b, rom, ram, &mut rec);
-    let s = e.standing;
-    if e.failed {
-        file::unread(q.plain, b"RECORDING", q.fourth);
-    } else {
-        answer(rom, s, g, &rec, q.plain);
+    match follow(rt, from, f, b, rom, ram, &mut rec) {
+        Ok(e) => {
+            let s = e.standing;
+            answer(rt, rom, s, g, &rec, q.plain)
+        }
+        Err(e) => file::unread(rt, q.plain, b"RECORDING", q.fourth, e),
     }
+}
+
+// Whether argument i is a single dash, which stands for what comes in.
+fn is_dash(rt: &impl Env, i: usize) -> bool {
+    let mut buf = [0u8; ask::LONGEST];
+    let n = ask::bytes_at(rt, i, &mut buf);
+    n == 1 && buf[0] == b'-'
 }
 
 // The file, or what comes in, for a single dash.
-fn source(path: &[u8]) -> i32 {
-    if path.len() == 1 {
-        if path[0] == b'-' {
-            return 0;
-        }
+fn opened(
+    rt: &impl Runtime,
+    q: Request,
+    rom: &[u8],
+    ram: &mut [u8],
+    g: Given,
+    r: Registers,
+) -> io::Result<()> {
+    if is_dash(rt, q.fourth) {
+        return recording(rt, q, &mut rt.reader(), rom, ram, g, r);
     }
-    os::open_read(path)
-}
-
-fn opened(q: Request, rom: &[u8], ram: &mut [u8], g: Given, r: Registers) {
-    let mut path = io::buffer();
-    let n = os::arg(q.fourth, &mut path);
-    let fd = source(&path[..n]);
-    if fd < 0 {
-        file::unread(q.plain, b"RECORDING", q.fourth);
-    } else {
-        recording(q, fd, rom, ram, g, r);
+    match file::open(rt, q.fourth) {
+        Ok(mut from) => recording(rt, q, &mut from, rom, ram, g, r),
+        Err(e) => file::unread(rt, q.plain, b"RECORDING", q.fourth, e),
     }
 }
 
-fn lent(q: Request, rom: &[u8], ram: &mut [u8], g: Given, r: Registers) {
+fn lent(
+    rt: &impl Runtime,
+    q: Request,
+    rom: &[u8],
+    ram: &mut [u8],
+    g: Given,
+    r: Registers,
+) -> io::Result<()> {
     let n = g.length as usize;
     if n <= ram.len() {
-        opened(q, rom, &mut ram[0..n], g, r);
+        opened(rt, q, rom, &mut ram[0..n], g, r)?;
     }
+    Ok(())
 }
 
 // The registers; all else is there.
-fn begun(q: Request, rom: &[u8], ram: &mut [u8], g: Given) {
-    let s = asked::start(q.plain, q.count, g.entry);
+fn begun(rt: &impl Runtime, q: Request, rom: &[u8], ram: &mut [u8], g: Given) -> io::Result<()> {
+    let s = asked::start(rt, q.plain, q.count, g.entry)?;
     if !s.bad {
         let r = s.regs;
-        lent(q, rom, ram, g, r);
+        lent(rt, q, rom, ram, g, r)?;
     }
+    Ok(())
 }
 
 // The ports; the registers are left.
-fn with_ports(q: Request, rom: &[u8], ram: &mut [u8], g: Given) {
-    let p = asked::ports(q, g.base);
+fn with_ports(
+    rt: &impl Runtime,
+    q: Request,
+    rom: &[u8],
+    ram: &mut [u8],
+    g: Given,
+) -> io::Result<()> {
+    let p = asked::ports(rt, q, g.base)?;
     if !p.bad {
         let area = p.area;
-        begun(q, rom, ram, asked::with_area(g, area, rom));
+        begun(rt, q, rom, ram, asked::with_area(g, area, rom))?;
     }
+    Ok(())
 }
 
-pub fn show_replay(q: Request, rom: &[u8], ram: &mut [u8]) {
-    let w = asked::numbers(q);
+pub fn show_replay(rt: &impl Runtime, q: Request, rom: &[u8], ram: &mut [u8]) -> io::Result<()> {
+    let w = asked::numbers(rt, q)?;
     if w.bad {
-        return;
+        return Ok(());
     }
     if q.fourth == 0 {
-        fault::missing(q.plain, b"RECORDING", b"a file");
-        return;
+        return fault::missing(rt, q.plain, b"RECORDING", b"a file");
     }
     let g = w.given;
-    with_ports(q, rom, ram, g);
+    with_ports(rt, q, rom, ram, g)
 }

@@ -5,6 +5,8 @@ use memory::Board;
 use registers::Registers;
 use runlines::Given;
 use site::Site;
+use std::env::Env;
+use std::io;
 
 fn board(g: Given) -> Board {
     let area = g.area;
@@ -13,82 +15,152 @@ fn board(g: Given) -> Board {
 }
 
 // One step, with what it touched; the registers that it leaves.
-fn step_shown(b: Board, rom: &[u8], ram: &mut [u8], r: Registers, plain: bool) -> Registers {
+fn step_shown(
+    rt: &impl Print,
+    b: Board,
+    rom: &[u8],
+    ram: &mut [u8],
+    r: Registers,
+    plain: bool,
+) -> io::Result<Registers> {
     let w = watch::single(b, rom, ram, r);
     let a = w.answer;
     let l = w.list;
-    show::write(runlines::traced(rom, r.pc, a.states, l, plain));
-    a.regs
+    show::write(rt, runlines::traced(rom, r.pc, a.states, l, plain))?;
+    Ok(a.regs)
 }
 
 // So many steps from the start, one after the other. A run has said how many it completed.
-fn trace(b: Board, rom: &[u8], ram: &mut [u8], start: Registers, steps: u32, plain: bool) {
+fn trace(
+    rt: &impl Print,
+    b: Board,
+    rom: &[u8],
+    ram: &mut [u8],
+    start: Registers,
+    steps: u32,
+    plain: bool,
+) -> io::Result<()> {
     let mut r = start;
-    let mut left = steps;
-    while 0 < left {
-        r = step_shown(b, rom, ram, r, plain);
-        left -= 1;
+    for _ in 0..steps {
+        r = step_shown(rt, b, rom, ram, r, plain)?;
     }
+    Ok(())
 }
 
 // The trace has a working memory of its own, `again`: both begin as zeros. Where nothing ran the answer stands alone, since its first line says that.
-fn traced(q: Request, rom: &[u8], again: &mut [u8], g: Given, r: Registers, steps: u32) {
+fn traced(
+    rt: &impl Print,
+    q: Request,
+    rom: &[u8],
+    again: &mut [u8],
+    g: Given,
+    r: Registers,
+    steps: u32,
+) -> io::Result<()> {
     if (q.trace != 0) & (0 < steps) {
-        show::write(runlines::trace_heading(text::blank(), q.plain));
-        trace(board(g), rom, again, r, steps, q.plain);
+        show::write(rt, runlines::trace_heading(text::blank(), q.plain))?;
+        trace(rt, board(g), rom, again, r, steps, q.plain)?;
     }
+    Ok(())
 }
 
-fn go(q: Request, rom: &[u8], ram: &mut [u8], again: &mut [u8], g: Given, r: Registers) {
+fn go(
+    rt: &impl Print,
+    q: Request,
+    rom: &[u8],
+    ram: &mut [u8],
+    again: &mut [u8],
+    g: Given,
+    r: Registers,
+) -> io::Result<()> {
     let a = run::run(board(g), rom, ram, r, g.stop, g.budget);
-    traced(q, rom, again, g, r, a.steps);
-    show::write(runlines::ran(text::blank(), rom, g, a, q.plain));
-    show::write(runlines::registers(text::blank(), a, q.plain));
+    traced(rt, q, rom, again, g, r, a.steps)?;
+    show::write(rt, runlines::ran(text::blank(), rom, g, a, q.plain))?;
+    show::write(rt, runlines::registers(text::blank(), a, q.plain))
 }
 
 // To the return of the routine at the entry.
-fn go_out(q: Request, rom: &[u8], ram: &mut [u8], again: &mut [u8], g: Given, r: Registers) {
+fn go_out(
+    rt: &impl Print,
+    q: Request,
+    rom: &[u8],
+    ram: &mut [u8],
+    again: &mut [u8],
+    g: Given,
+    r: Registers,
+) -> io::Result<()> {
     let a = routine::routine(board(g), rom, ram, r, g.stop, g.budget);
-    traced(q, rom, again, g, r, a.steps);
-    show::write(runlines::ran_out(text::blank(), rom, g, a, q.plain));
-    show::write(runlines::out_registers(text::blank(), a, q.plain));
+    traced(rt, q, rom, again, g, r, a.steps)?;
+    show::write(rt, runlines::ran_out(text::blank(), rom, g, a, q.plain))?;
+    show::write(rt, runlines::out_registers(text::blank(), a, q.plain))
 }
 
-fn lent(q: Request, rom: &[u8], ram: &mut [u8], again: &mut [u8], g: Given, r: Registers) {
+fn lent(
+    rt: &impl Print,
+    q: Request,
+    rom: &[u8],
+    ram: &mut [u8],
+    again: &mut [u8],
+    g: Given,
+    r: Registers,
+) -> io::Result<()> {
     let n = g.length as usize;
     if ram.len() < n {
-        return;
+        return Ok(());
     }
     if again.len() < n {
-        return;
+        return Ok(());
     }
     if q.routine == 0 {
-        go(q, rom, &mut ram[0..n], &mut again[0..n], g, r);
+        go(rt, q, rom, &mut ram[0..n], &mut again[0..n], g, r)
     } else {
-        go_out(q, rom, &mut ram[0..n], &mut again[0..n], g, r);
+        go_out(rt, q, rom, &mut ram[0..n], &mut again[0..n], g, r)
     }
 }
 
 // The registers; all else is there.
-fn begun(q: Request, rom: &[u8], ram: &mut [u8], again: &mut [u8], g: Given) {
-    let s = asked::start(q.plain, q.count, g.entry);
+fn begun(
+    rt: &(impl Print + Env),
+    q: Request,
+    rom: &[u8],
+    ram: &mut [u8],
+    again: &mut [u8],
+    g: Given,
+) -> io::Result<()> {
+    let s = asked::start(rt, q.plain, q.count, g.entry)?;
     if !s.bad {
-        lent(q, rom, ram, again, g, s.regs);
+        lent(rt, q, rom, ram, again, g, s.regs)?;
     }
+    Ok(())
 }
 
 // The ports; the registers are left.
-fn with_ports(q: Request, rom: &[u8], ram: &mut [u8], again: &mut [u8], g: Given) {
-    let p = asked::ports(q, g.base);
+fn with_ports(
+    rt: &(impl Print + Env),
+    q: Request,
+    rom: &[u8],
+    ram: &mut [u8],
+    again: &mut [u8],
+    g: Given,
+) -> io::Result<()> {
+    let p = asked::ports(rt, q, g.base)?;
     if !p.bad {
         let area = p.area;
-        begun(q, rom, ram, again, asked::with_area(g, area, rom));
+        begun(rt, q, rom, ram, again, asked::with_area(g, area, rom))?;
     }
+    Ok(())
 }
 
-pub fn show_run(q: Request, rom: &[u8], ram: &mut [u8], again: &mut [u8]) {
-    let w = asked::numbers(q);
+pub fn show_run(
+    rt: &(impl Print + Env),
+    q: Request,
+    rom: &[u8],
+    ram: &mut [u8],
+    again: &mut [u8],
+) -> io::Result<()> {
+    let w = asked::numbers(rt, q)?;
     if !w.bad {
-        with_ports(q, rom, ram, again, w.given);
+        with_ports(rt, q, rom, ram, again, w.given)?;
     }
+    Ok(())
 }

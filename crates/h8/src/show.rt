@@ -1,18 +1,15 @@
 // Texts to standard output.
+use std::io;
 use text::Line;
 
-fn write_first(s: &[u8], n: usize) {
+fn write_first(rt: &impl Print, s: &[u8], n: usize) -> io::Result<()> {
     if n <= s.len() {
-        io::write_all(1, &s[0..n]);
+        return rt.write_all(&s[0..n]);
     }
+    Ok(())
 }
 
-// An array, so that its length needs no proof.
-fn write_text(t: &[u8; 192], n: usize) {
-    write_first(t, n);
-}
-
-pub fn write(l: Line) {
+pub fn write(rt: &impl Print, l: Line) -> io::Result<()> {
     let t = l.text;
-    write_text(&t, l.n);
+    write_first(rt, &t, l.n)
 }
