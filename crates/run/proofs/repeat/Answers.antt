@@ -19,105 +19,86 @@ use Rattle.run.proofs.Quiet.{quiet_counted, quiet_turned, quiet_turned_long}
 use Rattle.run.specs.MirrorKept.{Keeps}
 use Rattle.run.specs.MirrorAlong.{along_from}
 use Rattle.run.proofs.Turns.{no_kind, outside, by_kind_lem, by_trail, step_is, as_done, not_stopped, not_halted, turn_done, turn_refused, same_registers, same_memory, pc_fits, stops, spent, strayed, length_kept, still_good, goes_on, refused}
-use Rattle.run.proofs.beside.strays.Reads as strays-reads
-use Rattle.run.proofs.kept.look.Reads as look-reads
-use Rattle.execute.proofs.reg_byte.Reads as reg-byte-reads
-use Rattle.execute.proofs.reg_word.Reads as reg-word-reads
-use Rattle.execute.proofs.reg_long.Reads as reg-long-reads
-use Rattle.execute.proofs.imm_byte.Reads as imm-byte-reads
-use Rattle.execute.proofs.imm_word.Reads as imm-word-reads
-use Rattle.execute.proofs.imm_long.Reads as imm-long-reads
-use Rattle.execute.proofs.counted.Reads as counted-reads
-use Rattle.execute.proofs.turned.Reads as turned-reads
-use Rattle.execute.proofs.turned_long.Reads as turned-long-reads
-use Rattle.transfer.proofs.single.Reads as single-Reads
-use Rattle.transfer.proofs.moving.byte.Reads as byte-Reads
-use Rattle.transfer.proofs.moving.word.Reads as word_reads
-use Rattle.transfer.proofs.moving.long.Reads as long_reads
-use Rattle.execute.proofs.branch_near.Reads as branch-near-reads
-use Rattle.execute.proofs.branch_far.Reads as branch-far-reads
-use Rattle.transfer.proofs.jump.Reads as jump-reads
-use Rattle.bitturns.proofs.take.Reads as take-reads
-use Rattle.bitturns.proofs.give.Reads as give-reads
-use Rattle.bitturns.proofs.take_at.Reads as take-at-reads
-use Rattle.bitturns.proofs.give_at.Reads as give-at-reads
-use Rattle.turns.proofs.refuse.Reads as refuse-reads
-use Rattle.registers.proofs.pc.Reads as pc-reads
 use Rattle.run.proofs.repeat.Reads as reads
+use Rattle.run.proofs.repeat.Lts as lts
+use Rattle.run.proofs.repeat.Tie as tie
 use Rattle.run.proofs.repeat.Goals as goal
+use Rattle.run.proofs.repeat.Goals.{in-0, in-1, in-2, in-3, in-4, in-5, in-6, in-7, in-8, in-9, in-10, in-11, in-12, in-13, in-14, in-15, in-16, in-17, in-18, in-19, in_default}
 
 -- where the arms of the match meet
 abbrev Met : Type 0
-Met = goal.At-match-branch (strays-reads.Asked, strays-reads.Learnt, look-reads.Asked, look-reads.Learnt, reg-byte-reads.Asked, reg-byte-reads.Learnt, reg-word-reads.Asked, reg-word-reads.Learnt, reg-long-reads.Asked, reg-long-reads.Learnt, imm-byte-reads.Asked, imm-byte-reads.Learnt, imm-word-reads.Asked, imm-word-reads.Learnt, imm-long-reads.Asked, imm-long-reads.Learnt, counted-reads.Asked, counted-reads.Learnt, turned-reads.Asked, turned-reads.Learnt, turned-long-reads.Asked, turned-long-reads.Learnt, single-Reads.Asked, single-Reads.Learnt, byte-Reads.Asked, byte-Reads.Learnt, word_reads.Asked, word_reads.Learnt, long_reads.Asked, long_reads.Learnt, branch-near-reads.Asked, branch-near-reads.Learnt, branch-far-reads.Asked, branch-far-reads.Learnt, jump-reads.Asked, jump-reads.Learnt, take-reads.Asked, take-reads.Learnt, give-reads.Asked, give-reads.Learnt, take-at-reads.Asked, take-at-reads.Learnt, give-at-reads.Asked, give-at-reads.Learnt, refuse-reads.Asked, refuse-reads.Learnt, pc-reads.Asked, pc-reads.Learnt) reads.Pre reads.Post invariant_loop decreases_loop
+Met = lts.At-match-branch tie.the-claims reads.Pre reads.Post goal.the-invariant-loop-pc goal.the-decreases-loop-pc tie.handed_clauses
 
 -- whichever group was called, it left what the step leaves
 turned : (c : Met) → (
-    let a = c.before.before.before.before.before.before.before.before.before.before.before.before.before.before.before.before.before.args in
-    let s = c.before.before.before.before.before.before.before.before.before.before.loop in
-    after (told_in c.match.er s.pc c.match.t) c.match.ram ≡ fetch_of (lent s.er s.pc s.f) a.b a.rom.now s.ram)
+    let a = c.args in
+    let s = c.loop-pc in
+    after (told_in c.match-e-rem32.er s.pc c.match-e-rem32.t) c.match-e-rem32.ram ≡ fetch_of (lent s.er s.pc s.f) a.b a.rom.now s.ram)
 unfolding by_kind act_of
 turned c =
-    let a = c.before.before.before.before.before.before.before.before.before.before.before.before.before.before.before.before.before.args in
-    let s = c.before.before.before.before.before.before.before.before.before.before.loop in
-    let e = c.before.before.before.look in
-    let by = by_kind_lem (lent s.er s.pc s.f) a.b a.rom.now s.ram e.result c.before.before.before.before.before.if4.false e.ensures.0 in
-    ⊎_elim (λ w. simp (w.3, w.4, w.6) (by 0 w.0.keys1 _ (w.2.ensures a.b a.rom.now s.ram)))
-    (⊎_elim (λ w. simp (w.3, w.4, w.6) (by 1 w.0.keys2 _ (w.2.ensures a.b a.rom.now s.ram)))
-    (⊎_elim (λ w. simp (w.3, w.4, w.6) (by 2 w.0.keys3 _ (w.2.ensures a.b a.rom.now s.ram)))
-    (⊎_elim (λ w. simp (w.3, w.4, w.6) (by 3 w.0.keys4 _ (w.2.ensures a.b a.rom.now s.ram)))
-    (⊎_elim (λ w. simp (w.3, w.4, w.6) (by 4 w.0.keys5 _ (w.2.ensures a.b a.rom.now s.ram)))
-    (⊎_elim (λ w. simp (w.3, w.4, w.6) (by 5 w.0.keys6 _ (w.2.ensures a.b a.rom.now s.ram)))
-    (⊎_elim (λ w. simp (w.3, w.4, w.6) (by 6 w.0.keys7 _ (w.2.ensures a.b a.rom.now s.ram)))
-    (⊎_elim (λ w. simp (w.3, w.4, w.6) (by 7 w.0.keys8 _ (w.2.ensures a.b a.rom.now s.ram)))
-    (⊎_elim (λ w. simp (w.3, w.4, w.6) (by 8 w.0.keys9 _ (w.2.ensures a.b a.rom.now s.ram)))
-    (⊎_elim (λ w. simp (w.5, w.6, w.8) (by 9 w.0.keys10 _ w.4.ensures.0))
-    (⊎_elim (λ w. simp (w.7, w.8, w.10) (by 10 w.0.keys11 _ w.4.ensures.0))
-    (⊎_elim (λ w. simp (w.7, w.8, w.10) (by 11 w.0.keys12 _ w.4.ensures.0))
-    (⊎_elim (λ w. simp (w.7, w.8, w.10) (by 12 w.0.keys13 _ w.4.ensures.0))
-    (⊎_elim (λ w. simp (w.2, w.3, w.5) (by 13 w.0.keys14 _ (w.1.ensures s.er a.b a.rom.now s.ram)))
-    (⊎_elim (λ w. simp (w.2, w.3, w.5) (by 14 w.0.keys15 _ (w.1.ensures s.er a.b a.rom.now s.ram)))
-    (⊎_elim (λ w. simp (w.7, w.8, w.10) (by 15 w.0.keys16 _ w.4.ensures.0))
-    (⊎_elim (λ w. simp (w.3, w.4, w.6) (by 16 w.0.keys17 _ (w.2.ensures a.b a.rom.now s.ram)))
-    (⊎_elim (λ w. simp (w.3, w.4, w.6) (by 17 w.0.keys18 _ (w.2.ensures a.b a.rom.now s.ram)))
-    (⊎_elim (λ w. simp (w.5, w.6, w.8) (by 18 w.0.keys19 _ w.4.ensures.0))
-    (⊎_elim (λ w. simp (w.7, w.8, w.10) (by 19 w.0.keys20 _ w.4.ensures.0))
-    (λ w. simp (w.2, w.3, w.5, w.1.ensures) (by _ refl _ (simp (no_kind s.pc (e.result / 16 % 32) (e.result % 16) (e.result / 512) w.0.rest.0.0.0.0.0.0.0.0.0.0.0.0.0.0.0.0.0.0.0.1 w.0.rest.0.0.0.0.0.0.0.0.0.0.0.0.0.0.0.0.0.0.1 w.0.rest.0.0.0.0.0.0.0.0.0.0.0.0.0.0.0.0.0.1 w.0.rest.0.0.0.0.0.0.0.0.0.0.0.0.0.0.0.0.1 w.0.rest.0.0.0.0.0.0.0.0.0.0.0.0.0.0.0.1 w.0.rest.0.0.0.0.0.0.0.0.0.0.0.0.0.0.1 w.0.rest.0.0.0.0.0.0.0.0.0.0.0.0.0.1 w.0.rest.0.0.0.0.0.0.0.0.0.0.0.0.1 w.0.rest.0.0.0.0.0.0.0.0.0.0.0.1 w.0.rest.0.0.0.0.0.0.0.0.0.0.1 w.0.rest.0.0.0.0.0.0.0.0.0.1 w.0.rest.0.0.0.0.0.0.0.0.1 w.0.rest.0.0.0.0.0.0.0.1 w.0.rest.0.0.0.0.0.0.1 w.0.rest.0.0.0.0.0.1 w.0.rest.0.0.0.0.1 w.0.rest.0.0.0.1 w.0.rest.0.0.1 w.0.rest.0.1 w.0.rest.1, refused_stays)))))))))))))))))))))))
-    c.match.branch
+    let a = c.args in
+    let s = c.loop-pc in
+    let e = c.look-e in
+    let by = by_kind_lem (lent s.er s.pc s.f) a.b a.rom.now s.ram e.result c.if-rom-at.false e.ensures.0 in
+    elim c.match-e-rem32.branch [
+      in-0 w ↦ simp (w.ram-is, w.er-is, w.t-is) (by 0 w.in-0.is _ (w.reg_byte-t.ensures a.b a.rom.now s.ram))
+      | in-1 w ↦ simp (w.ram-is, w.er-is, w.t-is) (by 1 w.in-1.is _ (w.reg_word-t.ensures a.b a.rom.now s.ram))
+      | in-2 w ↦ simp (w.ram-is, w.er-is, w.t-is) (by 2 w.in-2.is _ (w.reg_long-t.ensures a.b a.rom.now s.ram))
+      | in-3 w ↦ simp (w.ram-is, w.er-is, w.t-is) (by 3 w.in-3.is _ (w.imm_byte-t.ensures a.b a.rom.now s.ram))
+      | in-4 w ↦ simp (w.ram-is, w.er-is, w.t-is) (by 4 w.in-4.is _ (w.imm_word-t.ensures a.b a.rom.now s.ram))
+      | in-5 w ↦ simp (w.ram-is, w.er-is, w.t-is) (by 5 w.in-5.is _ (w.imm_long-t.ensures a.b a.rom.now s.ram))
+      | in-6 w ↦ simp (w.ram-is, w.er-is, w.t-is) (by 6 w.in-6.is _ (w.counted-t.ensures a.b a.rom.now s.ram))
+      | in-7 w ↦ simp (w.ram-is, w.er-is, w.t-is) (by 7 w.in-7.is _ (w.turned-t.ensures a.b a.rom.now s.ram))
+      | in-8 w ↦ simp (w.ram-is, w.er-is, w.t-is) (by 8 w.in-8.is _ (w.turned_long-t.ensures a.b a.rom.now s.ram))
+      | in-9 w ↦ simp (w.ram-is, w.er-is, w.t-is) (by 9 w.in-9.is _ w.single-t.ensures.did)
+      | in-10 w ↦ simp (w.ram-is, w.er-is, w.t-is) (by 10 w.in-10.is _ w.byte-t.ensures.did)
+      | in-11 w ↦ simp (w.ram-is, w.er-is, w.t-is) (by 11 w.in-11.is _ w.word-t.ensures.did)
+      | in-12 w ↦ simp (w.ram-is, w.er-is, w.t-is) (by 12 w.in-12.is _ w.long-t.ensures.did)
+      | in-13 w ↦ simp (w.ram-is, w.er-is, w.t-is) (by 13 w.in-13.is _ (w.branch_near-t.ensures s.er a.b a.rom.now s.ram))
+      | in-14 w ↦ simp (w.ram-is, w.er-is, w.t-is) (by 14 w.in-14.is _ (w.branch_far-t.ensures s.er a.b a.rom.now s.ram))
+      | in-15 w ↦ simp (w.ram-is, w.er-is, w.t-is) (by 15 w.in-15.is _ w.jump-t.ensures.did)
+      | in-16 w ↦ simp (w.ram-is, w.er-is, w.t-is) (by 16 w.in-16.is _ (w.take-t.ensures a.b a.rom.now s.ram))
+      | in-17 w ↦ simp (w.ram-is, w.er-is, w.t-is) (by 17 w.in-17.is _ (w.give-t.ensures a.b a.rom.now s.ram))
+      | in-18 w ↦ simp (w.ram-is, w.er-is, w.t-is) (by 18 w.in-18.is _ w.take_at-t.ensures.did)
+      | in-19 w ↦ simp (w.ram-is, w.er-is, w.t-is) (by 19 w.in-19.is _ w.give_at-t.ensures.did)
+      | in_default w ↦ simp (w.ram-is, w.er-is, w.t-is, w.refuse-t.ensures) (by _ refl _ (simp (no_kind s.pc (e.result / 16 % 32) (e.result % 16) (e.result / 512) w.in_default.in_default-own.rest.0.0.0.0.0.0.0.0.0.0.0.0.0.0.0.0.0.0.0.1 w.in_default.in_default-own.rest.0.0.0.0.0.0.0.0.0.0.0.0.0.0.0.0.0.0.1 w.in_default.in_default-own.rest.0.0.0.0.0.0.0.0.0.0.0.0.0.0.0.0.0.1 w.in_default.in_default-own.rest.0.0.0.0.0.0.0.0.0.0.0.0.0.0.0.0.1 w.in_default.in_default-own.rest.0.0.0.0.0.0.0.0.0.0.0.0.0.0.0.1 w.in_default.in_default-own.rest.0.0.0.0.0.0.0.0.0.0.0.0.0.0.1 w.in_default.in_default-own.rest.0.0.0.0.0.0.0.0.0.0.0.0.0.1 w.in_default.in_default-own.rest.0.0.0.0.0.0.0.0.0.0.0.0.1 w.in_default.in_default-own.rest.0.0.0.0.0.0.0.0.0.0.0.1 w.in_default.in_default-own.rest.0.0.0.0.0.0.0.0.0.0.1 w.in_default.in_default-own.rest.0.0.0.0.0.0.0.0.0.1 w.in_default.in_default-own.rest.0.0.0.0.0.0.0.0.1 w.in_default.in_default-own.rest.0.0.0.0.0.0.0.1 w.in_default.in_default-own.rest.0.0.0.0.0.0.1 w.in_default.in_default-own.rest.0.0.0.0.0.1 w.in_default.in_default-own.rest.0.0.0.0.1 w.in_default.in_default-own.rest.0.0.0.1 w.in_default.in_default-own.rest.0.0.1 w.in_default.in_default-own.rest.0.1 w.in_default.in_default-own.rest.1, refused_stays)))
+    ]
 
 -- and it noted what the instruction at PC touches
-trailed : (c : Met) → c.match.t.outcome ≡ Done → (
-    let a = c.before.before.before.before.before.before.before.before.before.before.before.before.before.before.before.before.before.args in
-    let s = c.before.before.before.before.before.before.before.before.before.before.loop in
-    c.match.trail ≡ trail_at a.rom.now (lent s.er s.pc s.f))
+trailed : (c : Met) → c.match-e-rem32.t.outcome ≡ Done → (
+    let a = c.args in
+    let s = c.loop-pc in
+    c.match-e-rem32.trail ≡ trail_at a.rom.now (lent s.er s.pc s.f))
 unfolding reg_short reg_long imm_byte imm_word imm_long branch_near branch_far taken_in given_in by_kind
 trailed c o =
-    let a = c.before.before.before.before.before.before.before.before.before.before.before.before.before.before.before.before.before.args in
-    let s = c.before.before.before.before.before.before.before.before.before.before.loop in
-    let e = c.before.before.before.look in
+    let a = c.args in
+    let s = c.loop-pc in
+    let e = c.look-e in
     let r = lent s.er s.pc s.f in
-    let by = by_trail r a.b a.rom.now s.ram e.result c.before.before.before.before.before.if4.false e.ensures.0 in
-    ⊎_elim (λ w. w.5 ∙ by 0 w.0.keys1 _ refl)
-    (⊎_elim (λ w. w.5 ∙ by 1 w.0.keys2 _ refl)
-    (⊎_elim (λ w. w.5 ∙ by 2 w.0.keys3 _ refl)
-    (⊎_elim (λ w. w.5 ∙ by 3 w.0.keys4 _ refl)
-    (⊎_elim (λ w. w.5 ∙ by 4 w.0.keys5 _ refl)
-    (⊎_elim (λ w. w.5 ∙ by 5 w.0.keys6 _ refl)
-    (⊎_elim (λ w. w.5 ∙ by 6 w.0.keys7 _ (quiet_counted r (e.result % 16) (e.result / 512)))
-    (⊎_elim (λ w. w.5 ∙ by 7 w.0.keys8 _ (quiet_turned r (e.result % 16) (e.result / 512)))
-    (⊎_elim (λ w. w.5 ∙ by 8 w.0.keys9 _ (quiet_turned_long r (e.result % 16) (e.result / 512)))
-    (⊎_elim (λ w. w.7 ∙ by 9 w.0.keys10 _ (w.4.ensures.1 s.pc (as_done w.8 o)))
-    (⊎_elim (λ w. w.9 ∙ by 10 w.0.keys11 _ (w.4.ensures.1 s.pc (as_done w.10 o)))
-    (⊎_elim (λ w. w.9 ∙ by 11 w.0.keys12 _ (w.4.ensures.1 s.pc (as_done w.10 o)))
-    (⊎_elim (λ w. w.9 ∙ by 12 w.0.keys13 _ (w.4.ensures.1 s.pc (as_done w.10 o)))
-    (⊎_elim (λ w. w.4 ∙ by 13 w.0.keys14 _ refl)
-    (⊎_elim (λ w. w.4 ∙ by 14 w.0.keys15 _ refl)
-    (⊎_elim (λ w. w.9 ∙ by 15 w.0.keys16 _ (w.4.ensures.1 s.pc (as_done w.10 o)))
-    (⊎_elim (λ w. w.5 ∙ by 16 w.0.keys17 _ refl)
-    (⊎_elim (λ w. w.5 ∙ by 17 w.0.keys18 _ refl)
-    (⊎_elim (λ w. w.7 ∙ by 18 w.0.keys19 _ (w.4.ensures.1 s.pc (as_done w.8 o)))
-    (⊎_elim (λ w. w.9 ∙ by 19 w.0.keys20 _ (w.4.ensures.1 s.pc (as_done w.10 o)))
-    (λ w. absurd (no_turn _ _ _ w.1.ensures (as_done w.5 o))))))))))))))))))))))
-    c.match.branch
+    let by = by_trail r a.b a.rom.now s.ram e.result c.if-rom-at.false e.ensures.0 in
+    elim c.match-e-rem32.branch [
+      in-0 w ↦ w.trail-is ∙ by 0 w.in-0.is _ refl
+      | in-1 w ↦ w.trail-is ∙ by 1 w.in-1.is _ refl
+      | in-2 w ↦ w.trail-is ∙ by 2 w.in-2.is _ refl
+      | in-3 w ↦ w.trail-is ∙ by 3 w.in-3.is _ refl
+      | in-4 w ↦ w.trail-is ∙ by 4 w.in-4.is _ refl
+      | in-5 w ↦ w.trail-is ∙ by 5 w.in-5.is _ refl
+      | in-6 w ↦ w.trail-is ∙ by 6 w.in-6.is _ (quiet_counted r (e.result % 16) (e.result / 512))
+      | in-7 w ↦ w.trail-is ∙ by 7 w.in-7.is _ (quiet_turned r (e.result % 16) (e.result / 512))
+      | in-8 w ↦ w.trail-is ∙ by 8 w.in-8.is _ (quiet_turned_long r (e.result % 16) (e.result / 512))
+      | in-9 w ↦ w.trail-is ∙ by 9 w.in-9.is _ (w.single-t.ensures.told s.pc (as_done w.t-is o))
+      | in-10 w ↦ w.trail-is ∙ by 10 w.in-10.is _ (w.byte-t.ensures.told s.pc (as_done w.t-is o))
+      | in-11 w ↦ w.trail-is ∙ by 11 w.in-11.is _ (w.word-t.ensures.told s.pc (as_done w.t-is o))
+      | in-12 w ↦ w.trail-is ∙ by 12 w.in-12.is _ (w.long-t.ensures.told s.pc (as_done w.t-is o))
+      | in-13 w ↦ w.trail-is ∙ by 13 w.in-13.is _ refl
+      | in-14 w ↦ w.trail-is ∙ by 14 w.in-14.is _ refl
+      | in-15 w ↦ w.trail-is ∙ by 15 w.in-15.is _ (w.jump-t.ensures.told s.pc (as_done w.t-is o))
+      | in-16 w ↦ w.trail-is ∙ by 16 w.in-16.is _ refl
+      | in-17 w ↦ w.trail-is ∙ by 17 w.in-17.is _ refl
+      | in-18 w ↦ w.trail-is ∙ by 18 w.in-18.is _ (w.take_at-t.ensures.told s.pc (as_done w.t-is o))
+      | in-19 w ↦ w.trail-is ∙ by 19 w.in-19.is _ (w.give_at-t.ensures.told s.pc (as_done w.t-is o))
+      | in_default w ↦ absurd (no_turn _ _ _ w.refuse-t.ensures (as_done w.t-is o))
+    ]
 
 pub loop-pc-init : goal.loop-pc-init
 loop-pc-init c = (search rules, search rules, search rules, omega arith, rw sub-zero, c.requires.1, c.requires.2, λ z. refl, λ n. absurd (n refl))
@@ -150,7 +131,7 @@ loop-pc-preserved c = let m = c in
     let r = lent s.er s.pc s.f in
     let t = m.match-e-rem32.t in
     let n = answered (lent m.match-e-rem32.er c.pc-pc.result t.condition) t.states Done in
-    let e : after n m.match-e-rem32.ram ≡ fetch_of r a.b a.rom.now s.ram = rw c.pc-pc.ensures (turn_done s.er m.match-e-rem32.er s.pc s.f t a.b a.rom.now s.ram m.match-e-rem32.ram (turned m) c.in-Done.is) in (
+    let e : after n m.match-e-rem32.ram ≡ fetch_of r a.b a.rom.now s.ram = rw c.pc-pc.ensures (turn_done s.er m.match-e-rem32.er s.pc s.f t a.b a.rom.now s.ram m.match-e-rem32.ram (turned (c.before.before.before.before.before)) c.in-Done.is) in (
       search (rules, m.lines-1.given, s.invariant.0),
       length_kept a.b a.rom.now a.stop a.records.now s.ram r s.steps s.states s.invariant.5 n m.match-e-rem32.ram e refl ∙ s.invariant.1,
       omega (arith, s.invariant.2, m.if-steps-budget.false),
@@ -165,7 +146,7 @@ loop-pc-preserved c = let m = c in
             held = s.ram;
             led = ap (λ (x : After). x.answer.regs) (step_is a.b a.rom.now a.stop a.records.now s.ram r s.steps s.states s.invariant.5 n m.match-e-rem32.ram e);
             only = λ h. s.invariant.7 (omega (arith, h));
-            tells = trailed m c.in-Done.is;
+            tells = trailed (c.before.before.before.before.before) c.in-Done.is;
           },
     )
 
@@ -188,7 +169,7 @@ pub returns-then-rom-at : goal.returns-then-rom-at
 returns-then-rom-at c = let a = c.args in
     let s = c.loop-pc in
     let r = lent s.er s.pc s.f in
-    (sym (refused a.b a.rom.now a.stop a.records.now s.ram r s.steps s.states s.invariant.5 _ _ (outside r a.b a.rom.now s.ram c.if-rom-at.true) a.budget c.if-pc-stop.false s.invariant.2 c.if-steps-budget.false (sym c.strays.ensures ∙ c.if-strays.false) _ refl) ∙ s.invariant.4, λ h n. absurd (not_halted h))
+    record { did = sym (refused a.b a.rom.now a.stop a.records.now s.ram r s.steps s.states s.invariant.5 _ _ (outside r a.b a.rom.now s.ram c.if-rom-at.true) a.budget c.if-pc-stop.false s.invariant.2 c.if-steps-budget.false (sym c.strays.ensures ∙ c.if-strays.false) _ refl) ∙ s.invariant.4; told = λ h n. absurd (not_halted h) }
 
 pub shape_of-lines-in-Refused : goal.shape_of-lines-in-Refused
 shape_of-lines-in-Refused c = search (rules, c.lines-1.given, c.loop-pc.invariant.0)
@@ -197,7 +178,7 @@ pub shape_of-ram-in-Refused : goal.shape_of-ram-in-Refused
 shape_of-ram-in-Refused c = let m = c in
     let a = m.args in
     let s = m.loop-pc in
-    ap (λ (l : List ℕ). length l) (same_memory s.er m.match-e-rem32.er s.pc s.f m.match-e-rem32.t a.b a.rom.now s.ram m.match-e-rem32.ram (turned m) _ c.in-Refused.is) ∙ s.invariant.1
+    ap (λ (l : List ℕ). length l) (same_memory s.er m.match-e-rem32.er s.pc s.f m.match-e-rem32.t a.b a.rom.now s.ram m.match-e-rem32.ram (turned (c.before.before)) _ c.in-Refused.is) ∙ s.invariant.1
 
 pub returns-in-Refused : goal.returns-in-Refused
 returns-in-Refused c = let m = c in
@@ -205,5 +186,5 @@ returns-in-Refused c = let m = c in
     let s = m.loop-pc in
     let r = lent s.er s.pc s.f in
     let x = c.in-Refused.is in
-    let e = turn_refused s.er m.match-e-rem32.er s.pc s.f m.match-e-rem32.t a.b a.rom.now s.ram m.match-e-rem32.ram (turned m) _ x in record { did = rw (same_registers s.er m.match-e-rem32.er s.pc s.f m.match-e-rem32.t a.b a.rom.now s.ram m.match-e-rem32.ram (turned m) _ x)
+    let e = turn_refused s.er m.match-e-rem32.er s.pc s.f m.match-e-rem32.t a.b a.rom.now s.ram m.match-e-rem32.ram (turned (c.before.before)) _ x in record { did = rw (same_registers s.er m.match-e-rem32.er s.pc s.f m.match-e-rem32.t a.b a.rom.now s.ram m.match-e-rem32.ram (turned (c.before.before)) _ x)
           (sym (refused a.b a.rom.now a.stop a.records.now s.ram r s.steps s.states s.invariant.5 _ _ e a.budget m.if-pc-stop.false s.invariant.2 m.if-steps-budget.false (sym m.strays.ensures ∙ m.if-strays.false) _ refl) ∙ s.invariant.4); told = λ h n. absurd (not_halted h) }

@@ -10,7 +10,7 @@ use Rattle.run.proofs.start.Goals as goal
 
 pub returns-then-budget-gt1000000 : goal.returns-then-budget-gt1000000
 unfolding start_of
-returns-then-budget-gt1000000 c = (rw (lt-ltb _ _ c.if-budget-gt1000000.true, c.answer.ensures), λ h n. absurd (n (ap (λ (q : Traced). q.answer.steps) c.answer.ensures)))
+returns-then-budget-gt1000000 c = record { did = rw (lt-ltb _ _ c.if-budget-gt1000000.true, c.answer.ensures); told = λ h n. absurd (n (ap (λ (q : Traced). q.answer.steps) c.answer.ensures)) }
 
 pub repeat-requires : goal.repeat-requires
 unfolding start_of
