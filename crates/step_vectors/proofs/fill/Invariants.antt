@@ -1,7 +1,6 @@
-use Prim.Native.Nat.{◌-◌}
-use mathlib.Core.Path.{◌≡◌}
-use lib.ListN.{length}
-use borrow.Author.Rules.{rules}
+use Rattle.std.proofs.Common.{◌-◌}
+use Rattle.std.proofs.Common.{◌≡◌}
+use Rattle.std.proofs.Common.{length}
 use Rattle.step_vectors.proofs.fill.Given as goal
 
 abbrev pub invariant-loop-i : goal.invariant-loop-i

@@ -1,5 +1,4 @@
-use Prim.Native.Nat.{◌≤◌, ◌-◌}
-use borrow.Author.Rules.{rules}
+use Rattle.std.proofs.Common.{◌≤◌, ◌-◌}
 use Rattle.step_vectors.proofs.held_records.Given as goal
 
 abbrev pub invariant-loop-k : goal.invariant-loop-k
