@@ -26,7 +26,7 @@ else
     need x86_64-linux-gnu-gcc gcc-x86-64-linux-gnu libc6-dev-amd64-cross
     compiler=x86_64-linux-gnu-gcc
     # an emulator of the system, else the one that the toolchain has beside its compiler, else Debian's
-    kit=${RATTLE_HOME:-$(dirname "$(dirname "$(readlink -f "$(command -v rt || echo /)")")")}/on/$(uname -m)/toolchain/bin/qemu-x86_64
+    kit=$(dirname "$(rt doc 2>/dev/null || echo /none)")/toolchain/bin/qemu-x86_64
     emulator=$(command -v qemu-x86_64 || command -v qemu-x86_64-static || command -v "$kit" || true)
     if [ -z "$emulator" ]; then
         need qemu-x86_64 qemu-user

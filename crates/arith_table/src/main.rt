@@ -3,6 +3,7 @@
 #![tactic(auto)]
 
 use arith::{Adjust, Counted, Moved, Shifted, Sum, Width};
+use std::io;
 
 // The last operand of a byte and of a word has a bit above it, which is none of the operand's.
 const BYTES: [u32; 9] = [0, 1, 0x0F, 0x10, 0x7F, 0x80, 0xFF, 0x5A, 0x1C3];
@@ -36,151 +37,156 @@ fn digits(w: Width) -> usize {
     }
 }
 
-fn show_width(w: Width) {
+fn show_width(rt: &impl Print, w: Width) -> io::Result<()> {
     match w {
-        Width::Byte => io::write_all(1, b"byte"),
-        Width::Word => io::write_all(1, b"word"),
-        Width::Long => io::write_all(1, b"long"),
-    };
-}
-
-fn show_value(w: Width, x: u32) {
-    io::write_all(1, b" ");
-    io::print_hex(1, x as u64, digits(w));
-}
-
-fn flag(set: bool, letter: &[u8]) {
-    if set {
-        io::write_all(1, letter);
-    } else {
-        io::write_all(1, b"-");
+        Width::Byte => print!(rt; "byte")?,
+        Width::Word => print!(rt; "word")?,
+        Width::Long => print!(rt; "long")?,
     }
+    Ok(())
 }
 
-fn show_nzv(n: bool, z: bool, v: bool) {
-    flag(n, b"N");
-    flag(z, b"Z");
-    flag(v, b"V");
+fn show_value(rt: &impl Print, w: Width, x: u32) -> io::Result<()> {
+    let digits = digits(w);
+    print!(rt; " {x:0digits$x}")
 }
 
-fn show_result(name: &[u8], w: Width, x: u32) {
-    io::write_all(1, name);
-    show_value(w, x);
-    io::write_all(1, b" ");
+fn flag(rt: &impl Print, set: bool, letter: &str) -> io::Result<()> {
+    if set {
+        print!(rt; "{letter}")?;
+    } else {
+        print!(rt; "-")?;
+    }
+    Ok(())
 }
 
-fn show_moved(name: &[u8], w: Width, s: Moved) {
-    show_result(name, w, s.value);
-    flag(s.n, b"N");
-    flag(s.z, b"Z");
+fn show_nzv(rt: &impl Print, n: bool, z: bool, v: bool) -> io::Result<()> {
+    flag(rt, n, "N")?;
+    flag(rt, z, "Z")?;
+    flag(rt, v, "V")
 }
 
-fn show_counted(name: &[u8], w: Width, s: Counted) {
-    show_result(name, w, s.value);
-    show_nzv(s.n, s.z, s.v);
+fn show_result(rt: &impl Print, name: &str, w: Width, x: u32) -> io::Result<()> {
+    print!(rt; "{name}")?;
+    show_value(rt, w, x)?;
+    print!(rt; " ")
 }
 
-fn show_shifted(name: &[u8], w: Width, s: Shifted) {
-    show_result(name, w, s.value);
-    show_nzv(s.n, s.z, s.v);
-    flag(s.c, b"C");
+fn show_moved(rt: &impl Print, name: &str, w: Width, s: Moved) -> io::Result<()> {
+    show_result(rt, name, w, s.value)?;
+    flag(rt, s.n, "N")?;
+    flag(rt, s.z, "Z")
 }
 
-fn show_sum(name: &[u8], w: Width, s: Sum) {
-    show_result(name, w, s.value);
-    flag(s.h, b"H");
-    show_nzv(s.n, s.z, s.v);
-    flag(s.c, b"C");
+fn show_counted(rt: &impl Print, name: &str, w: Width, s: Counted) -> io::Result<()> {
+    show_result(rt, name, w, s.value)?;
+    show_nzv(rt, s.n, s.z, s.v)
+}
+
+fn show_shifted(rt: &impl Print, name: &str, w: Width, s: Shifted) -> io::Result<()> {
+    show_result(rt, name, w, s.value)?;
+    show_nzv(rt, s.n, s.z, s.v)?;
+    flag(rt, s.c, "C")
+}
+
+fn show_sum(rt: &impl Print, name: &str, w: Width, s: Sum) -> io::Result<()> {
+    show_result(rt, name, w, s.value)?;
+    flag(rt, s.h, "H")?;
+    show_nzv(rt, s.n, s.z, s.v)?;
+    flag(rt, s.c, "C")
 }
 
 // ADDX and SUBX with C clear are ADD and SUB, and CMP gives SUB's flags; here ADDX and SUBX have C set.
-fn sums(w: Width, a: u32, b: u32) {
-    show_sum(b": ADD", w, arith::sums::add(w, a, b, false));
-    show_sum(b" ADDX", w, arith::sums::add(w, a, b, true));
-    show_sum(b" SUB", w, arith::sums::sub(w, a, b, false));
-    show_sum(b" SUBX", w, arith::sums::sub(w, a, b, true));
+fn sums(rt: &impl Print, w: Width, a: u32, b: u32) -> io::Result<()> {
+    show_sum(rt, ": ADD", w, arith::sums::add(w, a, b, false))?;
+    show_sum(rt, " ADDX", w, arith::sums::add(w, a, b, true))?;
+    show_sum(rt, " SUB", w, arith::sums::sub(w, a, b, false))?;
+    show_sum(rt, " SUBX", w, arith::sums::sub(w, a, b, true))
 }
 
-fn pair(w: Width, a: u32, b: u32) {
-    show_width(w);
-    show_value(w, a);
-    show_value(w, b);
-    sums(w, a, b);
-    show_moved(b" AND", w, arith::logic::and(w, a, b));
-    show_moved(b" OR", w, arith::logic::or(w, a, b));
-    show_moved(b" XOR", w, arith::logic::xor(w, a, b));
-    io::write_all(1, b"\n");
+fn pair(rt: &impl Print, w: Width, a: u32, b: u32) -> io::Result<()> {
+    show_width(rt, w)?;
+    show_value(rt, w, a)?;
+    show_value(rt, w, b)?;
+    sums(rt, w, a, b)?;
+    show_moved(rt, " AND", w, arith::logic::and(w, a, b))?;
+    show_moved(rt, " OR", w, arith::logic::or(w, a, b))?;
+    show_moved(rt, " XOR", w, arith::logic::xor(w, a, b))?;
+    println!(rt; "")
 }
 
-fn pairs(w: Width) {
+fn pairs(rt: &impl Print, w: Width) -> io::Result<()> {
     for k in 0..81 {
-        pair(w, operand(w, k / 9), operand(w, k));
+        pair(rt, w, operand(w, k / 9), operand(w, k))?;
     }
+    Ok(())
 }
 
 // INC and DEC by 1 and by 2.
-fn counts(w: Width, a: u32) {
-    show_counted(b" INC", w, arith::sums::inc(w, a, 1));
-    show_counted(b"", w, arith::sums::inc(w, a, 2));
-    show_counted(b" DEC", w, arith::sums::dec(w, a, 1));
-    show_counted(b"", w, arith::sums::dec(w, a, 2));
+fn counts(rt: &impl Print, w: Width, a: u32) -> io::Result<()> {
+    show_counted(rt, " INC", w, arith::sums::inc(w, a, 1))?;
+    show_counted(rt, "", w, arith::sums::inc(w, a, 2))?;
+    show_counted(rt, " DEC", w, arith::sums::dec(w, a, 1))?;
+    show_counted(rt, "", w, arith::sums::dec(w, a, 2))
 }
 
-fn shifts(w: Width, a: u32) {
-    show_shifted(b": SHLL", w, arith::shifts::shll(w, a));
-    show_shifted(b" SHLR", w, arith::shifts::shlr(w, a));
-    show_shifted(b" SHAL", w, arith::shifts::shal(w, a));
-    show_shifted(b" SHAR", w, arith::shifts::shar(w, a));
+fn shifts(rt: &impl Print, w: Width, a: u32) -> io::Result<()> {
+    show_shifted(rt, ": SHLL", w, arith::shifts::shll(w, a))?;
+    show_shifted(rt, " SHLR", w, arith::shifts::shlr(w, a))?;
+    show_shifted(rt, " SHAL", w, arith::shifts::shal(w, a))?;
+    show_shifted(rt, " SHAR", w, arith::shifts::shar(w, a))
 }
 
 // ROTXL and ROTXR with C clear and with C set.
-fn rotates(w: Width, a: u32) {
-    show_shifted(b" ROTL", w, arith::shifts::rotl(w, a));
-    show_shifted(b" ROTR", w, arith::shifts::rotr(w, a));
-    show_shifted(b" ROTXL", w, arith::shifts::rotxl(w, a, false));
-    show_shifted(b"", w, arith::shifts::rotxl(w, a, true));
-    show_shifted(b" ROTXR", w, arith::shifts::rotxr(w, a, false));
-    show_shifted(b"", w, arith::shifts::rotxr(w, a, true));
+fn rotates(rt: &impl Print, w: Width, a: u32) -> io::Result<()> {
+    show_shifted(rt, " ROTL", w, arith::shifts::rotl(w, a))?;
+    show_shifted(rt, " ROTR", w, arith::shifts::rotr(w, a))?;
+    show_shifted(rt, " ROTXL", w, arith::shifts::rotxl(w, a, false))?;
+    show_shifted(rt, "", w, arith::shifts::rotxl(w, a, true))?;
+    show_shifted(rt, " ROTXR", w, arith::shifts::rotxr(w, a, false))?;
+    show_shifted(rt, "", w, arith::shifts::rotxr(w, a, true))
 }
 
-fn extensions(w: Width, a: u32) {
-    show_moved(b" EXTU", w, arith::logic::extu(w, a));
-    show_moved(b" EXTS", w, arith::logic::exts(w, a));
+fn extensions(rt: &impl Print, w: Width, a: u32) -> io::Result<()> {
+    show_moved(rt, " EXTU", w, arith::logic::extu(w, a))?;
+    show_moved(rt, " EXTS", w, arith::logic::exts(w, a))
 }
 
 // A byte has nothing to be extended from.
-fn extended(w: Width, a: u32) {
+fn extended(rt: &impl Print, w: Width, a: u32) -> io::Result<()> {
     match w {
         Width::Byte => {}
-        Width::Word => extensions(w, a),
-        Width::Long => extensions(w, a),
+        Width::Word => extensions(rt, w, a)?,
+        Width::Long => extensions(rt, w, a)?,
     }
+    Ok(())
 }
 
-fn single(w: Width, a: u32) {
-    show_width(w);
-    show_value(w, a);
-    show_moved(b": MOV", w, arith::mov(w, a));
-    show_moved(b" NOT", w, arith::logic::not(w, a));
-    show_sum(b" NEG", w, arith::sums::neg(w, a));
-    counts(w, a);
-    extended(w, a);
-    io::write_all(1, b"\n");
+fn single(rt: &impl Print, w: Width, a: u32) -> io::Result<()> {
+    show_width(rt, w)?;
+    show_value(rt, w, a)?;
+    show_moved(rt, ": MOV", w, arith::mov(w, a))?;
+    show_moved(rt, " NOT", w, arith::logic::not(w, a))?;
+    show_sum(rt, " NEG", w, arith::sums::neg(w, a))?;
+    counts(rt, w, a)?;
+    extended(rt, w, a)?;
+    println!(rt; "")
 }
 
-fn turned(w: Width, a: u32) {
-    show_width(w);
-    show_value(w, a);
-    shifts(w, a);
-    rotates(w, a);
-    io::write_all(1, b"\n");
+fn turned(rt: &impl Print, w: Width, a: u32) -> io::Result<()> {
+    show_width(rt, w)?;
+    show_value(rt, w, a)?;
+    shifts(rt, w, a)?;
+    rotates(rt, w, a)?;
+    println!(rt; "")
 }
 
-fn singles(w: Width) {
+fn singles(rt: &impl Print, w: Width) -> io::Result<()> {
     for k in 0..9 {
-        single(w, operand(w, k));
-        turned(w, operand(w, k));
+        single(rt, w, operand(w, k))?;
+        turned(rt, w, operand(w, k))?;
     }
+    Ok(())
 }
 
 fn find(up: bool, c: bool, h: bool, x: u32) -> Adjust {
@@ -192,61 +198,61 @@ fn find(up: bool, c: bool, h: bool, x: u32) -> Adjust {
 }
 
 // What is added and C after, or dots where no row fits. It answers how many rows fitted.
-fn show_adjust(a: Adjust) -> u64 {
+fn show_adjust(rt: &impl Print, a: Adjust) -> io::Result<u64> {
     match a {
         Adjust::Adding(x, c) => {
-            show_value(Width::Byte, x as u32);
-            flag(c, b"C");
-            1
+            show_value(rt, Width::Byte, x as u32)?;
+            flag(rt, c, "C")?;
+            Ok(1)
         }
         Adjust::NoRow => {
-            io::write_all(1, b" ...");
-            0
+            print!(rt; " ...")?;
+            Ok(0)
         }
     }
 }
 
 // A line for each upper digit.
-fn line_begins(c: bool, h: bool, x: u32) {
+fn line_begins(rt: &impl Print, c: bool, h: bool, x: u32) -> io::Result<()> {
     if x % 16 == 0 {
-        io::write_all(1, b"\n");
-        flag(c, b"C");
-        flag(h, b"H");
-        show_value(Width::Byte, x);
-        io::write_all(1, b":");
+        println!(rt; "")?;
+        flag(rt, c, "C")?;
+        flag(rt, h, "H")?;
+        show_value(rt, Width::Byte, x)?;
+        print!(rt; ":")?;
     }
+    Ok(())
 }
 
-fn adjust(up: bool, c: bool, h: bool, x: u32) -> u64 {
-    line_begins(c, h, x);
-    show_adjust(find(up, c, h, x))
+fn adjust(rt: &impl Print, up: bool, c: bool, h: bool, x: u32) -> io::Result<u64> {
+    line_begins(rt, c, h, x)?;
+    show_adjust(rt, find(up, c, h, x))
 }
 
 // All combinations of C, H and the byte.
-fn adjusts(up: bool) -> u64 {
+fn adjusts(rt: &impl Print, up: bool) -> io::Result<u64> {
     let mut n = 0u64;
     for k in 0..1024u32 {
-        n = std::num::wrapping_add_u64(n, adjust(up, 512 <= k, k / 256 % 2 == 1, k % 256));
+        let found = adjust(rt, up, 512 <= k, k / 256 % 2 == 1, k % 256)?;
+        n = n.wrapping_add(found);
     }
-    n
+    Ok(n)
 }
 
-fn decimals(up: bool) {
-    let n = adjusts(up);
-    io::write_all(1, b"\n");
-    io::print_decimal(1, n);
-    io::write_all(1, b" of 1024\n");
+fn decimals(rt: &impl Print, up: bool) -> io::Result<()> {
+    let n = adjusts(rt, up)?;
+    println!(rt; "\n{n} of 1024")
 }
 
-fn main() {
-    pairs(Width::Byte);
-    pairs(Width::Word);
-    pairs(Width::Long);
-    singles(Width::Byte);
-    singles(Width::Word);
-    singles(Width::Long);
-    io::write_all(1, b"DAA");
-    decimals(true);
-    io::write_all(1, b"DAS");
-    decimals(false);
+fn main(rt: HostRuntime) -> io::Result<()> {
+    pairs(&rt, Width::Byte)?;
+    pairs(&rt, Width::Word)?;
+    pairs(&rt, Width::Long)?;
+    singles(&rt, Width::Byte)?;
+    singles(&rt, Width::Word)?;
+    singles(&rt, Width::Long)?;
+    print!(rt; "DAA")?;
+    decimals(&rt, true)?;
+    print!(rt; "DAS")?;
+    decimals(&rt, false)
 }

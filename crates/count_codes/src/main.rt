@@ -4,7 +4,7 @@
 ghost use Rattle.std.specs.Prelude.{◌≤◌};
 
 use codes::Decoded;
-use libc::STDOUT_FILENO;
+use std::io;
 
 // Whether the bytes get a refusal of that number and group; with number 0, whether a code begins them.
 fn gets(s: &[u8], number: u32, group: u32) -> bool {
@@ -45,48 +45,58 @@ fn second_words(a: u8, b: u8) -> u64 {
     n
 }
 
-fn print(text: &[u8], n: u64) {
-    io::write_all(STDOUT_FILENO, text);
-    io::print_decimal(STDOUT_FILENO, n);
-    io::write_all(STDOUT_FILENO, b"\n");
+fn print(rt: &impl Print, text: &str, n: u64) -> io::Result<()> {
+    println!(rt; "{text}{n}")
 }
 
-fn print_after(text: &[u8], a: u8, b: u8) {
-    io::write_all(STDOUT_FILENO, b"second words after ");
-    io::write_all(STDOUT_FILENO, text);
-    print(b" that are or begin a code: ", second_words(a, b));
+fn print_after(rt: &impl Print, text: &str, a: u8, b: u8) -> io::Result<()> {
+    print!(rt; "second words after {text}")?;
+    print(rt, " that are or begin a code: ", second_words(a, b))
 }
 
-fn main() {
-    print(b"first words that are a whole code: ", first_words(0, 0));
-    print(b"first words that begin a longer code: ", first_words(4, 0));
+fn main(rt: HostRuntime) -> io::Result<()> {
     print(
-        b"first words of codes left out, group 3: ",
+        &rt,
+        "first words that are a whole code: ",
+        first_words(0, 0),
+    )?;
+    print(
+        &rt,
+        "first words that begin a longer code: ",
+        first_words(4, 0),
+    )?;
+    print(
+        &rt,
+        "first words of codes left out, group 3: ",
         first_words(15, 3),
-    );
+    )?;
     print(
-        b"first words of codes left out, group 4: ",
+        &rt,
+        "first words of codes left out, group 4: ",
         first_words(15, 4),
-    );
+    )?;
     print(
-        b"first words of codes left out, group 5: ",
+        &rt,
+        "first words of codes left out, group 5: ",
         first_words(15, 5),
-    );
+    )?;
     print(
-        b"first words of codes left out, group 6: ",
+        &rt,
+        "first words of codes left out, group 6: ",
         first_words(15, 6),
-    );
+    )?;
     print(
-        b"first words of codes left out, group 7: ",
+        &rt,
+        "first words of codes left out, group 7: ",
         first_words(15, 7),
-    );
-    print(b"first words that begin none: ", first_words(3, 0));
-    print_after(b"0100", 0x01, 0x00);
-    print_after(b"01C0", 0x01, 0xC0);
-    print_after(b"01D0", 0x01, 0xD0);
-    print_after(b"01F0", 0x01, 0xF0);
-    print_after(b"7C00", 0x7C, 0x00);
-    print_after(b"7D00", 0x7D, 0x00);
-    print_after(b"7E00", 0x7E, 0x00);
-    print_after(b"7F00", 0x7F, 0x00);
+    )?;
+    print(&rt, "first words that begin none: ", first_words(3, 0))?;
+    print_after(&rt, "0100", 0x01, 0x00)?;
+    print_after(&rt, "01C0", 0x01, 0xC0)?;
+    print_after(&rt, "01D0", 0x01, 0xD0)?;
+    print_after(&rt, "01F0", 0x01, 0xF0)?;
+    print_after(&rt, "7C00", 0x7C, 0x00)?;
+    print_after(&rt, "7D00", 0x7D, 0x00)?;
+    print_after(&rt, "7E00", 0x7E, 0x00)?;
+    print_after(&rt, "7F00", 0x7F, 0x00)
 }

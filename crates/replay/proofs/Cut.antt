@@ -11,7 +11,7 @@ use Rattle.replay.specs.declared.Stage.{Stage}
 use Rattle.replay.specs.declared.Stage.TheVariants.{Version, Records, Told, Closed}
 use Rattle.replay.specs.declared.Standing.{Standing}
 use Rattle.replay.specs.declared.Said.TheVariants.{Final}
-use Rattle.replay.specs.Replay.{Moment, moment, staged, ended, end_of, ended_of, closed, fed, begun, replay_of}
+use Rattle.replay.specs.Replay.{Moment, moment, staged, byte_taken, ended, end_of, ended_of, closed, fed, begun, replay_of}
 use Rattle.replay.specs.Cuts.{Arrived, arrived, delivered, took, stage_arrived, deliver_of, deliveries, joined}
 use Rattle.replay.specs.MirrorReplay.{over_of}
 use Rattle.replay.proofs.Bytes.{no_true, told_stays}
@@ -20,7 +20,7 @@ module _ (b : Board) (rom : List ℕ) where
   fed_both : (s : Moment) (xs ys : List ℕ) → fed b rom s (xs ++ ys) ≡ fed b rom (fed b rom s xs) ys
   unfolding fed
   fed_both s [] ys = refl
-  fed_both s (x ∷ xs) ys = fed_both _ xs ys
+  fed_both s (x ∷ xs) ys = fed_both (byte_taken b rom s x) xs ys
 
   abbrev left : Arrived → Moment
   left a = moment a.answer.replay a.mem

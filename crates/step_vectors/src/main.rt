@@ -7,6 +7,7 @@
 use memory::Board;
 use refusal::{Outcome, Refusal};
 use registers::{Condition, Registers};
+use std::io;
 use step::StepAnswer;
 
 // A code of each form, with what follows it.
@@ -270,89 +271,82 @@ fn number(n: u32) -> u32 {
     mix(twice) % 65536 * 65536 + mix(twice + 1) % 65536
 }
 
-fn show_long(x: u32) {
-    io::write_all(1, b" ");
-    io::print_hex(1, x as u64, 8);
+fn show_long(rt: &impl Print, x: u32) -> io::Result<()> {
+    print!(rt; " {x:08x}")
 }
 
-fn show_general(er: [u32; 8]) {
-    show_long(er[0]);
-    show_long(er[1]);
-    show_long(er[2]);
-    show_long(er[3]);
-    show_long(er[4]);
-    show_long(er[5]);
-    show_long(er[6]);
-    show_long(er[7]);
+fn show_general(rt: &impl Print, er: [u32; 8]) -> io::Result<()> {
+    show_long(rt, er[0])?;
+    show_long(rt, er[1])?;
+    show_long(rt, er[2])?;
+    show_long(rt, er[3])?;
+    show_long(rt, er[4])?;
+    show_long(rt, er[5])?;
+    show_long(rt, er[6])?;
+    show_long(rt, er[7])
 }
 
-fn show_change(digit: u64, before: u32, after: u32) {
+fn show_change(rt: &impl Print, digit: u64, before: u32, after: u32) -> io::Result<()> {
     if before != after {
-        io::write_all(1, b" ER");
-        io::print_decimal(1, digit);
-        show_long(after);
+        print!(rt; " ER{digit}")?;
+        show_long(rt, after)?;
     }
+    Ok(())
 }
 
-fn show_changes(a: [u32; 8], b: [u32; 8]) {
-    show_change(0, a[0], b[0]);
-    show_change(1, a[1], b[1]);
-    show_change(2, a[2], b[2]);
-    show_change(3, a[3], b[3]);
-    show_change(4, a[4], b[4]);
-    show_change(5, a[5], b[5]);
-    show_change(6, a[6], b[6]);
-    show_change(7, a[7], b[7]);
+fn show_changes(rt: &impl Print, a: [u32; 8], b: [u32; 8]) -> io::Result<()> {
+    show_change(rt, 0, a[0], b[0])?;
+    show_change(rt, 1, a[1], b[1])?;
+    show_change(rt, 2, a[2], b[2])?;
+    show_change(rt, 3, a[3], b[3])?;
+    show_change(rt, 4, a[4], b[4])?;
+    show_change(rt, 5, a[5], b[5])?;
+    show_change(rt, 6, a[6], b[6])?;
+    show_change(rt, 7, a[7], b[7])
 }
 
-fn show_control(r: Registers) {
+fn show_control(rt: &impl Print, r: Registers) -> io::Result<()> {
     let f = r.condition;
     let b = f.byte();
-    io::write_all(1, b" PC ");
-    io::print_hex(1, r.pc as u64, 6);
-    io::write_all(1, b" CCR ");
-    io::print_hex(1, b as u64, 2);
+    print!(rt; " PC {:06x} CCR {b:02x}", r.pc)
 }
 
-fn show_byte(x: u8) {
-    io::print_hex(1, x as u64, 2);
+fn show_byte(rt: &impl Print, x: u8) -> io::Result<()> {
+    print!(rt; "{x:02x}")
 }
 
-fn show_ram(ram: &[u8]) {
-    io::write_all(1, b" RAM ");
+fn show_ram(rt: &impl Print, ram: &[u8]) -> io::Result<()> {
+    print!(rt; " RAM ")?;
     for i in 0..ram.len() {
-        show_byte(ram[i]);
+        show_byte(rt, ram[i])?;
     }
+    Ok(())
 }
 
-fn show_refusal(f: Refusal) {
-    io::write_all(1, b": refused ");
-    io::print_decimal(1, f.number() as u64);
-    io::write_all(1, b" at ");
-    io::print_hex(1, f.place() as u64, 6);
+fn show_refusal(rt: &impl Print, f: Refusal) -> io::Result<()> {
+    print!(rt; ": refused {} at {:06x}", f.number(), f.place())
 }
 
-fn show_done(states: u32) {
-    io::write_all(1, b": ");
-    io::print_decimal(1, states as u64);
-    io::write_all(1, b" states");
+fn show_done(rt: &impl Print, states: u32) -> io::Result<()> {
+    print!(rt; ": {states} states")
 }
 
 // A refused step has no states.
-fn show_outcome(o: Outcome, states: u32) {
+fn show_outcome(rt: &impl Print, o: Outcome, states: u32) -> io::Result<()> {
     match o {
-        Outcome::Done => show_done(states),
-        Outcome::Refused(f) => show_refusal(f),
+        Outcome::Done => show_done(rt, states)?,
+        Outcome::Refused(f) => show_refusal(rt, f)?,
     }
+    Ok(())
 }
 
-fn show_answer(before: [u32; 8], a: StepAnswer) {
+fn show_answer(rt: &impl Print, before: [u32; 8], a: StepAnswer) -> io::Result<()> {
     let o = a.outcome;
     let q = a.regs;
     let after = q.er;
-    show_outcome(o, a.states);
-    show_changes(before, after);
-    show_control(q);
+    show_outcome(rt, o, a.states)?;
+    show_changes(rt, before, after)?;
+    show_control(rt, q)
 }
 
 // The record lies here and is stepped where it lies; what came of it, in the form of the step by value.
@@ -418,10 +412,11 @@ fn same_bytes(a: &[u8], b: &[u8]) -> bool {
     same
 }
 
-fn show_agreed(agreed: bool) {
+fn show_agreed(rt: &impl Print, agreed: bool) -> io::Result<()> {
     if !agreed {
-        io::write_all(1, b" in place otherwise");
+        print!(rt; " in place otherwise")?;
     }
+    Ok(())
 }
 
 fn counted(t: bool) -> u32 {
@@ -439,23 +434,30 @@ struct Told {
 }
 
 // `again` holds what `ram` holds: working memory of the step in place.
-fn line(base: u32, rom: &[u8], ram: &mut [u8], again: &mut [u8], r: Registers) -> Told {
+fn line(
+    rt: &impl Print,
+    base: u32,
+    rom: &[u8],
+    ram: &mut [u8],
+    again: &mut [u8],
+    r: Registers,
+) -> io::Result<Told> {
     let before = r.er;
-    show_general(before);
-    show_control(r);
-    show_ram(&ram[..]);
+    show_general(rt, before)?;
+    show_control(rt, r)?;
+    show_ram(rt, &ram[..])?;
     let a = run::single(memory::plain(base), rom, ram, r);
     let q = a.regs;
-    show_answer(before, a);
-    show_ram(&ram[..]);
+    show_answer(rt, before, a)?;
+    show_ram(rt, &ram[..])?;
     let h = in_place(memory::plain(base), rom, again, r);
     let agreed = same_answer(a, h) & same_bytes(&ram[..], &again[..]);
-    show_agreed(agreed);
-    io::write_all(1, b"\n");
-    Told {
+    show_agreed(rt, agreed)?;
+    println!(rt; "")?;
+    Ok(Told {
         regs: q,
         agreed: agreed,
-    }
+    })
 }
 
 fn byte(x: u64) -> u8 {
@@ -508,13 +510,13 @@ fn working_memory(seed: u32) -> [u8; 16] {
 }
 
 // The board of the forms: 64 made bytes but for the code at PC, and working memory FFFFF0 to FFFFFF.
-fn on_board(seed: u32, code: u64, r: Registers) -> bool {
+fn on_board(rt: &impl Print, seed: u32, code: u64, r: Registers) -> io::Result<bool> {
     let rom = code_memory(seed, code, r.pc);
     let mut ram = working_memory(seed);
     let mut again = ram;
-    io::print_hex(1, code, 16);
-    let t = line(BASE, &rom, &mut ram, &mut again, r);
-    t.agreed
+    print!(rt; "{code:016x}")?;
+    let t = line(rt, BASE, &rom, &mut ram, &mut again, r)?;
+    Ok(t.agreed)
 }
 
 // ER5 to ER7 hold addresses: inside working memory; at its ends; or odd, with a top byte.
@@ -560,13 +562,13 @@ fn code(form: usize) -> u64 {
 }
 
 // The seed tells the form and which of its three states. How often the record in place did the same.
-fn every_form() -> u32 {
+fn every_form(rt: &impl Print) -> io::Result<u32> {
     let mut agreed = 0u32;
     for seed in 0..717u32 {
-        let same = on_board(seed, code((seed / 3) as usize), state(seed, seed % 3));
+        let same = on_board(rt, seed, code((seed / 3) as usize), state(seed, seed % 3))?;
         agreed = agreed + counted(same) % 2;
     }
-    agreed
+    Ok(agreed)
 }
 
 // A state of which only ER0, ER1, ER7, PC and the condition byte matter.
@@ -578,16 +580,17 @@ fn start(er0: u32, er1: u32, er7: u32, pc: u32, condition: u8) -> Registers {
     }
 }
 
-fn show_taken(pc: u32) {
+fn show_taken(rt: &impl Print, pc: u32) -> io::Result<()> {
     match pc {
-        0x12 => io::write_all(1, b"T"),
-        2 => io::write_all(1, b"-"),
-        _ => io::write_all(1, b"?"),
-    };
+        0x12 => print!(rt; "T")?,
+        2 => print!(rt; "-")?,
+        _ => print!(rt; "?")?,
+    }
+    Ok(())
 }
 
 // A branch from 0 to 12; four states, taken or not, and the same in place.
-fn branch(digit: u8, flags: u8) {
+fn branch(rt: &impl Print, digit: u8, flags: u8) -> io::Result<()> {
     let rom = [0x40 + digit % 16, 0x10];
     let mut ram = [0u8; 0];
     let r = start(0, 0, 0, 0, flags);
@@ -595,488 +598,626 @@ fn branch(digit: u8, flags: u8) {
     let h = in_place(memory::plain(BASE), &rom, &mut ram, r);
     let q = a.regs;
     if same_answer(a, h) & (a.states == 4) {
-        show_taken(q.pc);
+        show_taken(rt, q.pc)?;
     } else {
-        io::write_all(1, b"!");
+        print!(rt; "!")?;
     }
+    Ok(())
 }
 
-fn show_condition(digit: u8, flags: u8) {
+fn show_condition(rt: &impl Print, digit: u8, flags: u8) -> io::Result<()> {
     if flags == 0 {
-        io::write_all(
-            1,
-            b"
-Bcc ",
-        );
-        io::print_hex(1, digit as u64, 1);
-        io::write_all(1, b": ");
+        print!(rt; "\nBcc {digit:x}: ")?;
     }
-    branch(digit, flags);
+    branch(rt, digit, flags)
 }
 
 // N, Z, V and C from 0 to F: T where the branch is taken.
-fn conditions() {
-    io::write_all(1, b"NZVC");
+fn conditions(rt: &impl Print) -> io::Result<()> {
+    print!(rt; "NZVC")?;
     for k in 0..256u64 {
-        show_condition(byte(k / 16), byte(k % 16));
+        show_condition(rt, byte(k / 16), byte(k % 16))?;
     }
-    io::write_all(
-        1,
-        b"
-",
-    );
+    println!(rt; "")
 }
 
 // Read-only memory is the eight bytes of a code; working memory is two bytes, as in marked examples 8 and 9.
-fn small(name: &[u8], base: u32, code: u64, r: Registers) -> Told {
+fn small(rt: &impl Print, name: &str, base: u32, code: u64, r: Registers) -> io::Result<Told> {
     let rom = bytes(code);
     let mut ram = [0xA5u8, 0x5A];
     let mut again = ram;
-    io::write_all(1, name);
-    io::print_hex(1, code, 16);
-    io::write_all(1, b" base ");
-    io::print_hex(1, base as u64, 6);
-    line(base, &rom, &mut ram, &mut again, r)
+    print!(rt; "{name}{code:016x} base {base:06x}")?;
+    line(rt, base, &rom, &mut ram, &mut again, r)
 }
 
 const AT: u32 = 0xFFEF10;
 
-fn decimal_examples() {
+fn decimal_examples(rt: &impl Print) -> io::Result<()> {
     small(
-        b"example 3: ",
+        rt,
+        "example 3: ",
         AT,
         0x0F09000000000000,
         start(0, 0x5A, 0, 0, 0),
-    );
+    )?;
     small(
-        b"example 4: ",
+        rt,
+        "example 4: ",
         AT,
         0x0F09000000000000,
         start(0, 0x9A, 0, 0, 0),
-    );
+    )?;
     small(
-        b"example 5: ",
+        rt,
+        "example 5: ",
         AT,
         0x0F09000000000000,
         start(0, 0x21, 0, 0, 0x21),
-    );
+    )?;
     small(
-        b"example 6: ",
+        rt,
+        "example 6: ",
         AT,
         0x0F09000000000000,
         start(0, 0x04, 0, 0, 0x20),
-    );
+    )?;
+    Ok(())
 }
 
 // Example 2 with Z clear and with Z set before; after example 7 the BLT is taken.
-fn examples() {
+fn examples(rt: &impl Print) -> io::Result<()> {
     small(
-        b"example 1: ",
+        rt,
+        "example 1: ",
         AT,
         0x0889000000000000,
         start(0x7F, 0x01, 0, 0, 0),
-    );
+    )?;
     small(
-        b"example 2: ",
+        rt,
+        "example 2: ",
         AT,
         0x0E89000000000000,
         start(0x00, 0xFF, 0, 0, 0x01),
-    );
+    )?;
     small(
-        b"example 2: ",
+        rt,
+        "example 2: ",
         AT,
         0x0E89000000000000,
         start(0x00, 0xFF, 0, 0, 0x05),
-    );
-    decimal_examples();
+    )?;
+    decimal_examples(rt)?;
     let t = small(
-        b"example 7: ",
+        rt,
+        "example 7: ",
         AT,
         0x1C894D1000000000,
         start(0x01, 0x80, 0, 0, 0),
-    );
+    )?;
     let compared = t.regs;
-    small(b"example 7: ", AT, 0x1C894D1000000000, compared);
+    small(rt, "example 7: ", AT, 0x1C894D1000000000, compared)?;
     small(
-        b"example 8: ",
+        rt,
+        "example 8: ",
         AT,
         0x6910000000000000,
         start(0, 0x00FFEF11, 0, 0, 0),
-    );
+    )?;
     small(
-        b"example 9: ",
+        rt,
+        "example 9: ",
         AT,
         0x6D80000000000000,
         start(0x00FFEF12, 0, 0, 0, 0),
-    );
+    )?;
+    Ok(())
 }
 
 // Base odd, below the end of read-only memory, too high; PC odd, too high.
-fn bad_boards() {
-    small(b"refusal 1: ", 0xFFEF11, 0, start(0, 0, 0, 0, 0));
-    small(b"refusal 1: ", 6, 0, start(0, 0, 0, 0, 0));
-    small(b"refusal 1: ", 0x1000000, 0, start(0, 0, 0, 0, 0));
-    small(b"refusal 1: ", AT, 0, start(0, 0, 0, 9, 0));
-    small(b"refusal 1: ", AT, 0, start(0, 0, 0, 0x1000000, 0));
+fn bad_boards(rt: &impl Print) -> io::Result<()> {
+    small(rt, "refusal 1: ", 0xFFEF11, 0, start(0, 0, 0, 0, 0))?;
+    small(rt, "refusal 1: ", 6, 0, start(0, 0, 0, 0, 0))?;
+    small(rt, "refusal 1: ", 0x1000000, 0, start(0, 0, 0, 0, 0))?;
+    small(rt, "refusal 1: ", AT, 0, start(0, 0, 0, 9, 0))?;
+    small(rt, "refusal 1: ", AT, 0, start(0, 0, 0, 0x1000000, 0))?;
+    Ok(())
 }
 
 // Past the end; in working memory; a code that the manual has not, one that begins like JMP and one at the end; codes that run past the end.
-fn bad_codes() {
-    small(b"refusal 2: ", AT, 0, start(0, 0, 0, 8, 0));
-    small(b"refusal 2: ", AT, 0, start(0, 0, 0, AT, 0));
-    small(b"refusal 3: ", AT, 0x5471000000000000, start(0, 0, 0, 0, 0));
-    small(b"refusal 3: ", AT, 0x0000590100000000, start(0, 0, 0, 2, 0));
-    small(b"refusal 3: ", AT, 0x0000000000005801, start(0, 0, 0, 6, 0));
-    small(b"refusal 4: ", AT, 0x0000000000007900, start(0, 0, 0, 6, 0));
-    small(b"refusal 4: ", AT, 0x0000000001006B20, start(0, 0, 0, 4, 0));
+fn bad_codes(rt: &impl Print) -> io::Result<()> {
+    small(rt, "refusal 2: ", AT, 0, start(0, 0, 0, 8, 0))?;
+    small(rt, "refusal 2: ", AT, 0, start(0, 0, 0, AT, 0))?;
+    small(
+        rt,
+        "refusal 3: ",
+        AT,
+        0x5471000000000000,
+        start(0, 0, 0, 0, 0),
+    )?;
+    small(
+        rt,
+        "refusal 3: ",
+        AT,
+        0x0000590100000000,
+        start(0, 0, 0, 2, 0),
+    )?;
+    small(
+        rt,
+        "refusal 3: ",
+        AT,
+        0x0000000000005801,
+        start(0, 0, 0, 6, 0),
+    )?;
+    small(
+        rt,
+        "refusal 4: ",
+        AT,
+        0x0000000000007900,
+        start(0, 0, 0, 6, 0),
+    )?;
+    small(
+        rt,
+        "refusal 4: ",
+        AT,
+        0x0000000001006B20,
+        start(0, 0, 0, 4, 0),
+    )?;
+    Ok(())
 }
 
 // A byte; a word before memory; the second word of a longword; a vector, though the push is refused as well; RTS.
-fn bad_reads() {
+fn bad_reads(rt: &impl Print) -> io::Result<()> {
     small(
-        b"refusal 5: ",
+        rt,
+        "refusal 5: ",
         AT,
         0x6810000000000000,
         start(0, 0x00FFEF12, 0, 0, 0),
-    );
+    )?;
     small(
-        b"refusal 5: ",
+        rt,
+        "refusal 5: ",
         AT,
         0x6D10000000000000,
         start(0, 0x00FFEF0F, 0, 0, 0),
-    );
+    )?;
     small(
-        b"refusal 5: ",
+        rt,
+        "refusal 5: ",
         AT,
         0x0100691000000000,
         start(0, 0x00FFEF11, 0, 0, 0),
-    );
-    small(b"refusal 5: ", AT, 0x5FF0000000000000, start(0, 0, 0, 0, 0));
+    )?;
     small(
-        b"refusal 5: ",
+        rt,
+        "refusal 5: ",
+        AT,
+        0x5FF0000000000000,
+        start(0, 0, 0, 0, 0),
+    )?;
+    small(
+        rt,
+        "refusal 5: ",
         AT,
         0x5470000000000000,
         start(0, 0, 0x00FFEF10, 0, 0),
-    );
+    )?;
+    Ok(())
 }
 
 // Read-only memory; @-ER; the second word of a longword, where nothing is stored; a push; after the vector was read.
-fn bad_writes() {
+fn bad_writes(rt: &impl Print) -> io::Result<()> {
     small(
-        b"refusal 6: ",
+        rt,
+        "refusal 6: ",
         AT,
         0x6890000000000000,
         start(0, 0x00000004, 0, 0, 0),
-    );
+    )?;
     small(
-        b"refusal 6: ",
+        rt,
+        "refusal 6: ",
         AT,
         0x6C98000000000000,
         start(0, 0x00FFEF10, 0, 0, 0),
-    );
+    )?;
     small(
-        b"refusal 6: ",
+        rt,
+        "refusal 6: ",
         AT,
         0x0100699000000000,
         start(0x01020304, 0x00FFEF10, 0, 0, 0),
-    );
+    )?;
     small(
-        b"refusal 6: ",
+        rt,
+        "refusal 6: ",
         AT,
         0x5500000000000000,
         start(0, 0, 0x00FFEF14, 0, 0),
-    );
-    small(b"refusal 6: ", AT, 0x5F04000000000000, start(0, 0, 0, 0, 0));
+    )?;
+    small(
+        rt,
+        "refusal 6: ",
+        AT,
+        0x5F04000000000000,
+        start(0, 0, 0, 0, 0),
+    )?;
+    Ok(())
 }
 
 // MULXS behind 01D0; a digit that is no long register; a code that runs past the end, before its divisor is looked at.
-fn bad_multiplications() {
+fn bad_multiplications(rt: &impl Print) -> io::Result<()> {
     small(
-        b"refusal 3: ",
+        rt,
+        "refusal 3: ",
         AT,
         0x01D0508100000000,
         start(0x01, 0x01, 0, 0, 0),
-    );
+    )?;
     small(
-        b"refusal 3: ",
+        rt,
+        "refusal 3: ",
         AT,
         0x5309000000000000,
         start(0x01, 0x01, 0, 0, 0),
-    );
-    small(b"refusal 4: ", AT, 0x00000000000001D0, start(0, 0, 0, 6, 0));
+    )?;
+    small(
+        rt,
+        "refusal 4: ",
+        AT,
+        0x00000000000001D0,
+        start(0, 0, 0, 6, 0),
+    )?;
+    Ok(())
 }
 
 // By zero; a quotient of 256; by its own upper half; a quotient of 65,536.
-fn bad_divisions() {
+fn bad_divisions(rt: &impl Print) -> io::Result<()> {
     small(
-        b"refusal 14: ",
+        rt,
+        "refusal 14: ",
         AT,
         0x5181000000000000,
         start(0x00, 0x1234, 0, 0, 0xFF),
-    );
+    )?;
     small(
-        b"refusal 14: ",
+        rt,
+        "refusal 14: ",
         AT,
         0x5181000000000000,
         start(0x01, 0x0100, 0, 0, 0),
-    );
+    )?;
     small(
-        b"refusal 14: ",
+        rt,
+        "refusal 14: ",
         AT,
         0x5111000000000000,
         start(0, 0xFF00, 0, 0, 0),
-    );
+    )?;
     small(
-        b"refusal 14: ",
+        rt,
+        "refusal 14: ",
         AT,
         0x0000530100000000,
         start(0x0001, 0x00010000, 0, 2, 0),
-    );
+    )?;
+    Ok(())
 }
 
 // By zero; quotients of 128 and -129; by zero; 80000000 by -1.
-fn bad_signed_divisions() {
+fn bad_signed_divisions(rt: &impl Print) -> io::Result<()> {
     small(
-        b"refusal 14: ",
+        rt,
+        "refusal 14: ",
         AT,
         0x01D0518100000000,
         start(0x00, 0x0000, 0, 0, 0),
-    );
+    )?;
     small(
-        b"refusal 14: ",
+        rt,
+        "refusal 14: ",
         AT,
         0x01D0518100000000,
         start(0xFF, 0xFF80, 0, 0, 0),
-    );
+    )?;
     small(
-        b"refusal 14: ",
+        rt,
+        "refusal 14: ",
         AT,
         0x01D0518100000000,
         start(0x80, 0x4080, 0, 0, 0),
-    );
+    )?;
     small(
-        b"refusal 14: ",
+        rt,
+        "refusal 14: ",
         AT,
         0x01D0530100000000,
         start(0x0000, 0x80000000, 0, 0, 0),
-    );
+    )?;
     small(
-        b"refusal 14: ",
+        rt,
+        "refusal 14: ",
         AT,
         0x01D0530100000000,
         start(0xFFFF, 0x80000000, 0, 0, 0),
-    );
+    )?;
+    Ok(())
 }
 
-fn refusals() {
-    bad_boards();
-    bad_codes();
-    bad_reads();
-    bad_writes();
+fn refusals(rt: &impl Print) -> io::Result<()> {
+    bad_boards(rt)?;
+    bad_codes(rt)?;
+    bad_reads(rt)?;
+    bad_writes(rt)?;
     small(
-        b"refusal 7: ",
+        rt,
+        "refusal 7: ",
         AT,
         0x000000001F080000,
         start(0x50, 0, 0, 4, 0x20),
-    );
-    bad_multiplications();
-    bad_divisions();
-    bad_signed_divisions();
+    )?;
+    bad_multiplications(rt)?;
+    bad_divisions(rt)?;
+    bad_signed_divisions(rt)
 }
 
 // MULXU leaves all flags; the destination's upper half does not matter, but may be the source. -128 by -128; zero by -1.
-fn multiplications() {
+fn multiplications(rt: &impl Print) -> io::Result<()> {
     small(
-        b"multiply: ",
+        rt,
+        "multiply: ",
         AT,
         0x5081000000000000,
         start(0x00, 0xAAAA55FF, 0, 0, 0),
-    );
+    )?;
     small(
-        b"multiply: ",
+        rt,
+        "multiply: ",
         AT,
         0x5011000000000000,
         start(0, 0x0000FF02, 0, 0, 0xFF),
-    );
+    )?;
     small(
-        b"multiply: ",
+        rt,
+        "multiply: ",
         AT,
         0x5291000000000000,
         start(0, 0xFFFFFFFF, 0, 0, 0),
-    );
+    )?;
     small(
-        b"multiply: ",
+        rt,
+        "multiply: ",
         AT,
         0x01C0508100000000,
         start(0x80, 0x0080, 0, 0, 0xFF),
-    );
+    )?;
     small(
-        b"multiply: ",
+        rt,
+        "multiply: ",
         AT,
         0x01C0508900000000,
         start(0xFF, 0x12005678, 0, 0, 0x08),
-    );
+    )?;
     small(
-        b"multiply: ",
+        rt,
+        "multiply: ",
         AT,
         0x01C0520100000000,
         start(0x8000, 0xFFFF8000, 0, 0, 0),
-    );
+    )?;
+    Ok(())
 }
 
 // N is the divisor's top bit; by its own lower half; the largest quotient and remainder.
-fn divisions() {
+fn divisions(rt: &impl Print) -> io::Result<()> {
     small(
-        b"divide: ",
+        rt,
+        "divide: ",
         AT,
         0x5181000000000000,
         start(0x80, 0x00FF, 0, 0, 0x04),
-    );
+    )?;
     small(
-        b"divide: ",
+        rt,
+        "divide: ",
         AT,
         0x5191000000000000,
         start(0, 0x0510, 0, 0, 0),
-    );
+    )?;
     small(
-        b"divide: ",
+        rt,
+        "divide: ",
         AT,
         0x5301000000000000,
         start(0xFFFF, 0xFFFEFFFF, 0, 0, 0),
-    );
+    )?;
+    Ok(())
 }
 
 // A quotient of zero with N set; a remainder with the dividend's sign; -128 fits, and -32,768; by its own upper half.
-fn signed_divisions() {
+fn signed_divisions(rt: &impl Print) -> io::Result<()> {
     small(
-        b"divide: ",
+        rt,
+        "divide: ",
         AT,
         0x01D0518100000000,
         start(0xFB, 0x0003, 0, 0, 0),
-    );
+    )?;
     small(
-        b"divide: ",
+        rt,
+        "divide: ",
         AT,
         0x01D0518100000000,
         start(0xFE, 0xFFF9, 0, 0, 0xFF),
-    );
+    )?;
     small(
-        b"divide: ",
+        rt,
+        "divide: ",
         AT,
         0x01D0518100000000,
         start(0x80, 0x407F, 0, 0, 0),
-    );
+    )?;
     small(
-        b"divide: ",
+        rt,
+        "divide: ",
         AT,
         0x01D0530100000000,
         start(0xFFFF, 0x00008000, 0, 0, 0),
-    );
+    )?;
     small(
-        b"divide: ",
+        rt,
+        "divide: ",
         AT,
         0x01D0539100000000,
         start(0, 0xFFFFFFFF, 0, 0, 0),
-    );
+    )?;
+    Ok(())
 }
 
 // BSET behind 7C; a number that no bit has; a code that runs past the end. A bit to be written is read first: 5 before 6; FFFF40; 6 in
 // read-only memory.
-fn bad_bits() {
+fn bad_bits(rt: &impl Print) -> io::Result<()> {
     small(
-        b"refusal 3: ",
+        rt,
+        "refusal 3: ",
         AT,
         0x7C10700000000000,
         start(0, 0x00FFEF10, 0, 0, 0),
-    );
-    small(b"refusal 3: ", AT, 0x7080000000000000, start(0, 0, 0, 0, 0));
-    small(b"refusal 4: ", AT, 0x0000000000007D10, start(0, 0, 0, 6, 0));
+    )?;
     small(
-        b"refusal 5: ",
+        rt,
+        "refusal 3: ",
+        AT,
+        0x7080000000000000,
+        start(0, 0, 0, 0, 0),
+    )?;
+    small(
+        rt,
+        "refusal 4: ",
+        AT,
+        0x0000000000007D10,
+        start(0, 0, 0, 6, 0),
+    )?;
+    small(
+        rt,
+        "refusal 5: ",
         AT,
         0x7D10700000000000,
         start(0, 0x00FFEF13, 0, 0, 0xFF),
-    );
+    )?;
     small(
-        b"refusal 5: ",
+        rt,
+        "refusal 5: ",
         AT,
         0x7E40770000000000,
         start(0, 0, 0, 0, 0xFF),
-    );
+    )?;
     small(
-        b"refusal 6: ",
+        rt,
+        "refusal 6: ",
         AT,
         0x7D10670000000000,
         start(0, 0x00000005, 0, 0, 0xFF),
-    );
+    )?;
+    Ok(())
 }
 
 // A byte that has its own bit's number; the number 255; BTST of 1 and of 0; BIST of C.
-fn bits() {
-    small(b"bit: ", AT, 0x6088000000000000, start(0x0A, 0, 0, 0, 0));
+fn bits(rt: &impl Print) -> io::Result<()> {
+    small(rt, "bit: ", AT, 0x6088000000000000, start(0x0A, 0, 0, 0, 0))?;
     small(
-        b"bit: ",
+        rt,
+        "bit: ",
         AT,
         0x6298000000000000,
         start(0xFF, 0xFF, 0, 0, 0xFF),
-    );
+    )?;
     small(
-        b"bit: ",
+        rt,
+        "bit: ",
         AT,
         0x7301000000000000,
         start(0, 0x0100, 0, 0, 0xFF),
-    );
-    small(b"bit: ", AT, 0x7319000000000000, start(0, 0x0001, 0, 0, 0));
-    small(b"bit: ", AT, 0x67F8000000000000, start(0x80, 0, 0, 0, 0x01));
+    )?;
+    small(
+        rt,
+        "bit: ",
+        AT,
+        0x7319000000000000,
+        start(0, 0x0001, 0, 0, 0),
+    )?;
+    small(
+        rt,
+        "bit: ",
+        AT,
+        0x67F8000000000000,
+        start(0x80, 0, 0, 0, 0x01),
+    )?;
+    Ok(())
 }
 
 // A bit of read-only memory is read; one at an odd address is written.
-fn bits_in_memory() {
+fn bits_in_memory(rt: &impl Print) -> io::Result<()> {
     small(
-        b"bit: ",
+        rt,
+        "bit: ",
         AT,
         0x7C10773000000000,
         start(0, 0x00000003, 0, 0, 0x01),
-    );
+    )?;
     small(
-        b"bit: ",
+        rt,
+        "bit: ",
         AT,
         0x7D10712000000000,
         start(0, 0x12FFEF11, 0, 0, 0),
-    );
+    )?;
+    Ok(())
 }
 
 // The register that goes up or down is also loaded or stored; an odd one.
-fn own_parts() {
-    on_board(600, 0x6C08000000000000, start(0x00FFFFFF, 0, 0, 0, 0));
-    on_board(601, 0x6C88000000000000, start(0x01000000, 0, 0, 0, 0));
-    on_board(602, 0x6D08000000000000, start(0x00FFFFFE, 0, 0, 0, 0));
-    on_board(603, 0x6D80000000000000, start(0x00FFFFF3, 0, 0, 0, 0));
-    on_board(604, 0x01006D0000000000, start(0xABFFFFF5, 0, 0, 0, 0));
-    on_board(605, 0x01006D8000000000, start(0x01000000, 0, 0, 0, 0));
+fn own_parts(rt: &impl Print) -> io::Result<()> {
+    on_board(rt, 600, 0x6C08000000000000, start(0x00FFFFFF, 0, 0, 0, 0))?;
+    on_board(rt, 601, 0x6C88000000000000, start(0x01000000, 0, 0, 0, 0))?;
+    on_board(rt, 602, 0x6D08000000000000, start(0x00FFFFFE, 0, 0, 0, 0))?;
+    on_board(rt, 603, 0x6D80000000000000, start(0x00FFFFF3, 0, 0, 0, 0))?;
+    on_board(rt, 604, 0x01006D0000000000, start(0xABFFFFF5, 0, 0, 0, 0))?;
+    on_board(rt, 605, 0x01006D8000000000, start(0x01000000, 0, 0, 0, 0))?;
+    Ok(())
 }
 
 // A longword at FFFFFE goes on at 000000; calls by ER7, with ER7 odd and over 24 bits; ER7 going below 0.
-fn ends_of_memory() {
-    on_board(606, 0x0100690000000000, start(0x00FFFFFE, 0, 0, 0, 0));
+fn ends_of_memory(rt: &impl Print) -> io::Result<()> {
+    on_board(rt, 606, 0x0100690000000000, start(0x00FFFFFE, 0, 0, 0, 0))?;
     on_board(
+        rt,
         607,
         0x0100698100000000,
         start(0x00FFFFFE, 0x01020304, 0, 0, 0),
-    );
-    on_board(608, 0x5D70000000000000, start(0, 0, 0x00FFFFF8, 0, 0));
-    on_board(609, 0x5E00400100000000, start(0, 0, 0x12FFFFF9, 0, 0));
-    on_board(610, 0x5500000000000000, start(0, 0, 0x00000000, 0, 0));
-    on_board(611, 0x5470000000000000, start(0, 0, 0xFFFFFFFC, 0, 0));
+    )?;
+    on_board(rt, 608, 0x5D70000000000000, start(0, 0, 0x00FFFFF8, 0, 0))?;
+    on_board(rt, 609, 0x5E00400100000000, start(0, 0, 0x12FFFFF9, 0, 0))?;
+    on_board(rt, 610, 0x5500000000000000, start(0, 0, 0x00000000, 0, 0))?;
+    on_board(rt, 611, 0x5470000000000000, start(0, 0, 0xFFFFFFFC, 0, 0))?;
+    Ok(())
 }
 
 // The push goes over the vector that was read before it: the target is the old one, its first byte and its lowest bit gone.
-fn vector_in_working_memory() {
+fn vector_in_working_memory(rt: &impl Print) -> io::Result<()> {
     let rom = bytes(0x5F08000000000000);
     let mut ram = [0x12u8, 0x00, 0x40, 0x21];
     let mut again = ram;
-    io::write_all(1, b"vector: 5f08000000000000 base 000008");
-    line(8, &rom, &mut ram, &mut again, start(0, 0, 0x0000000C, 0, 0));
+    print!(rt; "vector: 5f08000000000000 base 000008")?;
+    line(
+        rt,
+        8,
+        &rom,
+        &mut ram,
+        &mut again,
+        start(0, 0, 0x0000000C, 0, 0),
+    )?;
+    Ok(())
 }
 
 // Every refusal that a step has. PC odd; past the end; no code; cut short; reads: a byte, a word with the register going up, RTS;
@@ -1112,45 +1253,42 @@ fn filled(pc: u32) -> Registers {
 }
 
 // Whether the record, by value and in place, is after the step what it was before.
-fn holds(k: usize) -> bool {
+fn holds(rt: &impl Print, k: usize) -> io::Result<bool> {
     let p = HELD_PC;
     let c = HELD_CODES;
     let r = filled(p[k % 13]);
-    let t = small(b"held: ", AT, c[k % 13], r);
+    let t = small(rt, "held: ", AT, c[k % 13], r)?;
     let q = t.regs;
-    t.agreed & same_registers(q, r)
+    Ok(t.agreed & same_registers(q, r))
 }
 
-fn held_records() -> u32 {
+fn held_records(rt: &impl Print) -> io::Result<u32> {
     let mut held = 0u32;
     for k in 0..13usize {
-        held = held + counted(holds(k)) % 2;
+        let same = holds(rt, k)?;
+        held = held + counted(same) % 2;
     }
-    held
+    Ok(held)
 }
 
-fn show_agreements(forms: u32, held: u32) {
-    io::write_all(1, b"in place: steps as by value ");
-    io::print_decimal(1, forms as u64);
-    io::write_all(1, b", records held after a refusal ");
-    io::print_decimal(1, held as u64);
-    io::write_all(1, b"\n");
+fn show_agreements(rt: &impl Print, forms: u32, held: u32) -> io::Result<()> {
+    println!(rt; "in place: steps as by value {forms}, records held after a refusal {held}")
 }
 
-fn main() {
-    let forms = every_form();
-    conditions();
-    examples();
-    refusals();
-    multiplications();
-    divisions();
-    signed_divisions();
-    bad_bits();
-    bits();
-    bits_in_memory();
-    own_parts();
-    ends_of_memory();
-    vector_in_working_memory();
-    let held = held_records();
-    show_agreements(forms, held);
+fn main(rt: HostRuntime) -> io::Result<()> {
+    let forms = every_form(&rt)?;
+    conditions(&rt)?;
+    examples(&rt)?;
+    refusals(&rt)?;
+    multiplications(&rt)?;
+    divisions(&rt)?;
+    signed_divisions(&rt)?;
+    bad_bits(&rt)?;
+    bits(&rt)?;
+    bits_in_memory(&rt)?;
+    own_parts(&rt)?;
+    ends_of_memory(&rt)?;
+    vector_in_working_memory(&rt)?;
+    let held = held_records(&rt)?;
+    show_agreements(&rt, forms, held)
 }

@@ -1,5 +1,4 @@
-use Prim.Native.Nat.{◌≤◌, ◌-◌}
-use borrow.Author.Rules.{rules}
+use Rattle.std.proofs.Common.{◌≤◌, ◌-◌}
 use Rattle.count_codes.proofs.second_words.Given as goal
 
 abbrev pub invariant-loop-w : goal.invariant-loop-w
