@@ -8,7 +8,7 @@ use native.Mathlib.Nat.{div-add-mod'}
 use lib.Dec.{ltb, eqb}
 use borrow.Author.Tests.{eqb-true, ltb-true, ltb-false, eqb-false}
 use Rattle.decoder.specs.Names.{Width, Byte, Word, Long, Op, Add, Sub, Cmp, Mov, Or, Xor, And, Reg, Way, Up, Down, One, Two, Four, Turn, Shll}
-use Rattle.decoder.specs.Names.{Shlr, Rotxl, Rotxr, Shal, Shar, Rotl, Rotr, Not, Neg, Extu, Exts, Half, Eight, Sixteen, Sign, Unsigned, Signed, Dir, Load, Store, Place, At, Step, Disp, Abs16}
+use Rattle.decoder.specs.Names.{Shlr, Rotxl, Rotxr, Shal, Shar, Rotl, Rotr, Not, Neg, Extu, Exts, Half, Eight, Sixteen, Unsigned, Signed, Dir, Load, Store, Place, At, Step, Disp, Abs16}
 use Rattle.decoder.specs.Names.{Spot, InPart, AtEr, AtAbs}
 use Rattle.decoder.specs.Names.{Abs24, ByReg, Instruction, Alu, IncDec, AddsSubs, Shift, Unary, Multiply, Divide, Move, Jmp, Jsr, Rest, Plan, Whole, Lacks}
 use Rattle.decoder.specs.Names.{Nothing, Mode, Plain, Stepping, Displaced, Absolute, Tail, Bits16, Bits24, Bits32}

@@ -18,7 +18,7 @@ use Rattle.decoder.specs.Names.{Plain, Stepping, Displaced, Absolute, Bits16, Bi
 use Rattle.codes.specs.Code.{code_of, ◌·◌, dir_digit, digit013, digit89_b, spot_code, be16, be24, be32}
 use Rattle.codes.specs.Valid.{Valid, Digit, HasSpot}
 use Rattle.products.specs.Products.{product_width}
-use Rattle.decoder.specs.MirrorWords.{pick, exactly, below, held, reg_reg, multiplied, divided, long_reg, inc_decs, shifts, shift_of, unaries, bcc_digit, move_of, memory_of, next_op, plans, plan_of}
+use Rattle.decoder.specs.MirrorWords.{pick, exactly, below, held, reg_reg, long_reg, inc_decs, shifts, shift_of, unaries, bcc_digit, move_of, memory_of, next_op, plans, plan_of}
 use Rattle.decoder.specs.MirrorWords.{long_memory, long_logic, is_ezero, e_zero, take_either, give_numbered, give_by_part, reads_of, writes_of, after_of}
 use Rattle.decoder.specs.MirrorDecode.{tail_of_rest, fill_of, begun_of, two_words, starts_of, prefix_of}
 

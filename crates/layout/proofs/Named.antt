@@ -1,5 +1,5 @@
 -- The instruction that a row names is the one valid instruction whose row it is.
-use mathlib.Core.Path.{◌≡◌, refl, sym, ◌∙◌, ap}
+use mathlib.Core.Path.{◌≡◌, refl, ◌∙◌, ap}
 use mathlib.Core.Bool.{Bool, true, false, cond, ◌&&◌, false≢true}
 use mathlib.Core.List.{List, [], ◌∷◌}
 use Prim.Native.Nat.{ℕ, ◌%◌, ◌≤◌, ◌<◌}
@@ -7,15 +7,14 @@ use native.Mathlib.Omega.{arith}
 use lib.Dec.{eqb}
 use lib.ListN.{length, take}
 use borrow.Author.Tests.{eq-eqb, eqb-true}
-use Rattle.layout.specs.Names.{Width, Byte, Word, Long, Source, Reg, Imm, Place, At, Step, Disp, Abs8, Abs16, Abs24, Reach, Near, Far, Target, ByReg, Direct, Vector}
+use Rattle.layout.specs.Names.{Width, Byte, Word, Long, Reg, Imm, Place, At, Step, Disp, Abs8, Abs16, Abs24, Reach, Near, Far, Target, ByReg, Direct, Vector}
 use Rattle.layout.specs.Names.{Instruction, Nop, Stc, LdcReg, Ccr, Alu, IncDec, AddsSubs, Decimal, Shift, Unary, Multiply, Divide, Takes, Gives, Move, Bcc, Jmp, Bsr, Jsr, Rts}
 use Rattle.layout.specs.Names.{Index, Numbered, ByPart, Spot, InPart, AtEr, AtAbs}
 use Rattle.products.specs.Products.{factor_width, product_width}
 use Rattle.codes.specs.Valid.{Valid, Digit, HasIndex, HasSpot, HasPlace, HasReach, HasTarget}
 use Rattle.layout.specs.declared.rows.Row.{Row}
-use Rattle.layout.specs.declared.rows.Named.{Named}
 use Rattle.layout.specs.declared.rows.Named.TheVariants.{Names, NamesNone}
-use Rattle.layout.specs.Rows.{row_of, source_row, place_row, reach_row, target_row, index_form, index_other, spot_form, spot_value, spot_reg, seven}
+use Rattle.layout.specs.Rows.{row_of, place_row, reach_row, target_row, index_form, index_other, spot_form, spot_value, spot_reg, seven}
 use Rattle.layout.specs.MirrorRows.{source_at, place_at, reach_at, target_at, index_at, spot_at, read_row, same_of, named_of}
 use Rattle.layout.specs.MirrorLent.{row_in}
 use Rattle.layout.proofs.Backs.{width_back, change_back, op_back, way_back, by_back, turn_back, single_back, dir_back, sign_back, half_back, take_back, give_back}

@@ -5,11 +5,9 @@ use mathlib.Core.Bool.{Bool, true, false, not, ◌&&◌}
 use mathlib.Core.List.{List}
 use Prim.Native.Nat.{ℕ, ◌%◌, ◌≤◌}
 use native.Mathlib.Omega.{arith}
-use lib.ListN.{length}
 use lib.Dec.{leb, eqb}
 use borrow.Author.Tests.{eqb-true, leb-true}
 use Rattle.paths.specs.declared.Flow.{Flow}
-use Rattle.paths.specs.declared.Reckoned.{Reckoned}
 use Rattle.paths.specs.MirrorRows.{level_of}
 use Rattle.paths.specs.Levels.{HeldIs}
 use Rattle.paths.proofs.Laws.{Listing, row_cast}

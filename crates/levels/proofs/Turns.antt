@@ -17,7 +17,7 @@ use Rattle.paths.specs.MirrorPacked.{packed_at, packed_flow, notes_of, noted_of,
 use Rattle.paths.proofs.Laws.{le_or, Listing}
 use Rattle.paths.proofs.Packed.{lower, noted_flow, packed_small, packed_held}
 use Rattle.paths.proofs.Table.{kept_below, kept_rows, kept_rest, stored, stored_at, stored_above}
-use Rattle.levels.specs.Levels.{NotedFrom, Lent, Ready, Costed, Reached}
+use Rattle.levels.specs.Levels.{NotedFrom, Ready, Costed, Reached}
 
 -- what stands in the upper half of a number stays
 kept_upper : (t : List ℕ) (at x i : ℕ) → x < 4294967296 → at < length t → get_or (set t at (get_or t at 0 / 4294967296 * 4294967296 + x)) i 0 / 4294967296 ≡ get_or t i 0 / 4294967296

@@ -1,21 +1,19 @@
 -- What the instructions without memory do to the registers; PC is none of theirs (document 01, "Numbers, flags and addresses"; manual 002, section 2.2).
-use Rattle.std.specs.Prelude.{ℕ, ◌+◌, ◌%◌, Bool, true, false, ◌&&◌, ◌||◌, List}
-use Rattle.std.specs.Bool.{xor}
+use Rattle.std.specs.Prelude.{ℕ, ◌+◌, ◌%◌, Bool, false}
 use Rattle.arith.specs.Widths.{bits_of, moved_of}
 use Rattle.arith.specs.Sums.{add_of, sub_of, neg_of, inc_of, dec_of}
-use Rattle.arith.specs.Logic.{bitwise_of, and_of, or_of, xor_of, not_of, extu_of, exts_of}
+use Rattle.arith.specs.Logic.{and_of, or_of, xor_of, not_of, extu_of, exts_of}
 use Rattle.arith.specs.Shifts.{shll_of, shlr_of, rotxl_of, rotxr_of, shal_of, shar_of, rotl_of, rotr_of}
 use Rattle.arith.specs.Decimal.{adjust_of, daa_rows, das_rows}
 use Rattle.arith.specs.declared.Shifted.{Shifted}
 use Rattle.arith.specs.declared.Adjust.{Adjust}
 use Rattle.arith.specs.declared.Adjust.TheVariants.{Adding, NoRow}
 use Rattle.refusal.specs.declared.Refusal.TheVariants.{NoAdjustRow}
-use Rattle.registers.specs.declared.Condition.{Condition}
 use Rattle.registers.specs.declared.Registers.{Registers}
 use Rattle.registers.specs.Condition.{condition_of, byte_of, with_adjusted}
 use Rattle.registers.specs.Parts.{part_of, with_part, with_condition}
 use Rattle.arith.specs.declared.Width.{Width}
-use Rattle.arith.specs.declared.Width.TheVariants.{Byte, Word, Long}
+use Rattle.arith.specs.declared.Width.TheVariants.{Byte, Long}
 use Rattle.codes.specs.declared.Op.{Op}
 use Rattle.codes.specs.declared.Op.TheVariants.{Add, Sub, Cmp, Mov, Addx, Subx, Or, Xor, And}
 use Rattle.codes.specs.declared.Source.{Source}

@@ -1,5 +1,5 @@
 -- How the result of an operation is put into the part of digit d, and which flags follow it.
-use Rattle.std.specs.Prelude.{ℕ, Bool, List}
+use Rattle.std.specs.Prelude.{ℕ}
 use Rattle.arith.specs.declared.Width.{Width}
 use Rattle.arith.specs.declared.Sum.{Sum}
 use Rattle.arith.specs.declared.Counted.{Counted}

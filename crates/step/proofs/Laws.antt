@@ -1,11 +1,11 @@
 -- What a step can come to, and the laws that follow: a refused step changes nothing; a completed one adds exactly its instruction's states, sets PC to
 -- where the instruction goes, and keeps registers and memory in range. Assumes nothing.
-use Prim.Native.Nat.{ℕ, ◌+◌, ◌%◌, ◌^◌, ◌≤◌, ◌<◌}
-use mathlib.Core.Path.{◌≡◌, refl, sym, ◌∙◌, ap}
-use mathlib.Core.Bool.{Bool, true, false, cond, ◌&&◌}
+use Prim.Native.Nat.{ℕ, ◌≤◌}
+use mathlib.Core.Path.{◌≡◌, refl}
+use mathlib.Core.Bool.{Bool, true, false}
 use mathlib.Core.List.{List}
 use native.Mathlib.Omega.{arith}
-use lib.Dec.{eqb, ltb}
+use lib.Dec.{ltb}
 use lib.ListN.{length, drop}
 use borrow.Author.Tests.{eq-eqb, lt-ltb}
 use Rattle.arith.specs.declared.Adjust.{Adjust}
@@ -15,13 +15,12 @@ use Rattle.refusal.specs.Refusals.{number_of}
 use Rattle.machine.specs.Machine.{ByData}
 use Rattle.refusal.specs.declared.Refusal.{Refusal}
 use Rattle.refusal.specs.declared.Refusal.TheVariants.{BadBoard, FetchOutside, NoAdjustRow, DivideFails}
-use Rattle.refusal.specs.declared.Outcome.{Outcome}
 use Rattle.refusal.specs.declared.Outcome.TheVariants.{Done, Refused}
 use Rattle.registers.specs.declared.Registers.{Registers}
-use Rattle.registers.specs.Parts.{part_of, with_pc, with_condition}
+use Rattle.registers.specs.Parts.{with_pc}
 use Rattle.registers.proofs.Kept.{Whole, whole_part, whole_condition, whole_pc, pc_even}
 use Rattle.memory.specs.Board.{good_board}
-use Rattle.memory.specs.Access.{read_of, write_of}
+use Rattle.memory.specs.Access.{write_of}
 use Rattle.memory.specs.declared.Board.{Board}
 use Rattle.memory.specs.declared.Got.{Got}
 use Rattle.memory.specs.declared.Got.TheVariants.{Value, NotRead}
@@ -30,7 +29,6 @@ use Rattle.memory.specs.declared.Put.TheVariants.{Stored, NotStored}
 use Rattle.memory.proofs.Laws.{read_number, write_left, write_number, write_length}
 use Rattle.operate.specs.Operate.{adjusted_of, decimal_of, carried_of}
 use Rattle.operate.specs.Results.{did, refused}
-use Rattle.operate.specs.Results.{Effect}
 use Rattle.multiply.specs.Multiply.{divided_of, divide_of}
 use Rattle.products.specs.declared.Half.{Half}
 use Rattle.products.specs.declared.Division.{Division}
@@ -39,7 +37,7 @@ use Rattle.bitwork.specs.Bitwork.{took_from, takes_at, gave_to, gives_at, takes_
 use Rattle.timing.proofs.Few.{most_few}
 use Rattle.moves.specs.Made.{states_at}
 use Rattle.moves.proofs.States.{never_more}
-use Rattle.moves.specs.Moves.{Stepped, stepped, step_over, loaded_of, load_of, stored_of, store_of, push_of, popped_of}
+use Rattle.moves.specs.Moves.{Stepped, stepped, step_over, loaded_of, load_of, stored_of, store_of, push_of}
 use Rattle.flow.specs.Targets.{next_of}
 use Rattle.decoder.specs.MirrorDecode.{decode_of}
 use Rattle.codes.specs.States.{goes_of}
@@ -47,11 +45,10 @@ use Rattle.step.specs.Follow.{aim_of, follow_of}
 use Rattle.step.specs.Step.{transfer_of, effect_of, After, after, answered, stays, finish_of, carry_of, obey_of, act_of, fetch_of, good_pc, good_start, step_of}
 use Rattle.step.proofs.Range.{whole_stc, whole_ldc, whole_ccr, whole_alu, whole_inc_dec, whole_carried, whole_adds_subs, whole_added, whole_shift, whole_unary, whole_put, whole_multiply, whole_over, whole_took}
 use Rattle.arith.specs.declared.Width.{Width}
-use Rattle.arith.specs.declared.Width.TheVariants.{Byte, Word, Long}
+use Rattle.arith.specs.declared.Width.TheVariants.{Byte, Long}
 use Rattle.codes.specs.declared.Dir.{Dir}
 use Rattle.codes.specs.declared.Dir.TheVariants.{Load, Store}
 use Rattle.codes.specs.declared.Place.{Place}
-use Rattle.codes.specs.declared.Place.TheVariants.{At, Step, Disp, Abs8, Abs16, Abs24}
 use Rattle.codes.specs.declared.Take.{Take}
 use Rattle.codes.specs.declared.Give.{Give}
 use Rattle.codes.specs.declared.Index.{Index}
@@ -65,7 +62,6 @@ use Rattle.codes.specs.declared.Goes.{Goes}
 use Rattle.codes.specs.declared.Goes.TheVariants.{Onward, Branches, Jumps, CallsNear, Calls, Returns}
 use Rattle.codes.specs.declared.Decoded.{Decoded}
 use Rattle.codes.specs.declared.Decoded.TheVariants.{Code, NoCode}
-use Rattle.codes.specs.declared.Way.{Way}
 use Rattle.codes.specs.declared.Way.TheVariants.{Up, Down}
 
 -- what an instruction does to registers r and working memory ram: it is done, or refused by its data, and then nothing changed

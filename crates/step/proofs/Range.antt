@@ -1,7 +1,6 @@
 -- Registers stay in range: eight registers of 32 bits, whatever the instruction.
 use Prim.Native.Nat.{ℕ}
 use mathlib.Core.Bool.{Bool}
-use Rattle.arith.specs.declared.Adjust.{Adjust}
 use Rattle.registers.specs.declared.Registers.{Registers}
 use Rattle.registers.specs.declared.Condition.{Condition}
 use Rattle.registers.specs.Parts.{with_part, with_condition}
@@ -16,21 +15,17 @@ use Rattle.products.specs.Products.{product_width}
 use Rattle.codes.specs.declared.Sign.{Sign}
 use Rattle.codes.specs.declared.Sign.TheVariants.{Unsigned, Signed}
 use Rattle.arith.specs.declared.Width.{Width}
-use Rattle.arith.specs.declared.Width.TheVariants.{Byte, Word, Long}
+use Rattle.arith.specs.declared.Width.TheVariants.{Byte, Long}
 use Rattle.codes.specs.declared.Op.{Op}
 use Rattle.codes.specs.declared.Op.TheVariants.{Add, Sub, Cmp, Mov, Addx, Subx, Or, Xor, And}
 use Rattle.codes.specs.declared.Source.{Source}
-use Rattle.codes.specs.declared.Source.TheVariants.{Reg, Imm}
 use Rattle.codes.specs.declared.Way.{Way}
 use Rattle.codes.specs.declared.Way.TheVariants.{Up, Down}
 use Rattle.codes.specs.declared.By.{By}
-use Rattle.codes.specs.declared.By.TheVariants.{One, Two, Four}
 use Rattle.codes.specs.declared.Turn.{Turn}
-use Rattle.codes.specs.declared.Turn.TheVariants.{Shll, Shlr, Rotxl, Rotxr, Shal, Shar, Rotl, Rotr}
 use Rattle.codes.specs.declared.Single.{Single}
 use Rattle.codes.specs.declared.Single.TheVariants.{Not, Neg, Extu, Exts}
 use Rattle.codes.specs.declared.Change.{Change}
-use Rattle.codes.specs.declared.Change.TheVariants.{Orc, Xorc, Andc, Ldc}
 use Rattle.codes.specs.declared.Take.{Take}
 use Rattle.codes.specs.declared.Index.{Index}
 use Rattle.codes.specs.declared.Place.{Place}

@@ -1,5 +1,5 @@
 -- Which address PC is set to after an instruction (document 01, "Numbers, flags and addresses"; manual 002:1362-1388, 2243-2273, 3117). Apart from what the instruction does.
-use Rattle.std.specs.Prelude.{ℕ, ◌/◌, ◌%◌, Bool, true, false, cond, ◌||◌, not, List, eqb}
+use Rattle.std.specs.Prelude.{ℕ, ◌/◌, ◌%◌, Bool, true, cond, ◌||◌, not, List, eqb}
 use Rattle.std.specs.Bool.{xor}
 use Rattle.arith.specs.declared.Width.TheVariants.{Long}
 use Rattle.registers.specs.declared.Condition.{Condition}
@@ -8,7 +8,7 @@ use Rattle.registers.specs.Parts.{part_of}
 use Rattle.memory.specs.Access.{read_of}
 use Rattle.memory.specs.declared.Board.{Board}
 use Rattle.memory.specs.declared.Got.{Got}
-use Rattle.memory.specs.declared.Got.TheVariants.{Value, NotRead}
+use Rattle.memory.specs.declared.Got.TheVariants.{Value}
 use Rattle.flow.specs.Targets.{target_of}
 use Rattle.codes.specs.declared.Target.{Target}
 use Rattle.codes.specs.declared.Target.TheVariants.{ByReg, Direct, Vector}

@@ -1,5 +1,5 @@
 -- One step: what each instruction does to registers and memory, its states, and every refusal in document 01's order.
-use Rattle.std.specs.Prelude.{ℕ, ◌+◌, ◌%◌, ◌^◌, Bool, true, false, cond, ◌&&◌, List, eqb, ltb, length, drop}
+use Rattle.std.specs.Prelude.{ℕ, ◌%◌, ◌^◌, Bool, cond, ◌&&◌, List, eqb, ltb, length, drop}
 use Rattle.arith.specs.declared.Width.{Width}
 use Rattle.refusal.specs.declared.Refusal.{Refusal}
 use Rattle.refusal.specs.declared.Refusal.TheVariants.{BadBoard, FetchOutside}
@@ -25,7 +25,6 @@ use Rattle.step.specs.declared.StepAnswer.{StepAnswer}
 use Rattle.codes.specs.declared.Dir.{Dir}
 use Rattle.codes.specs.declared.Dir.TheVariants.{Load, Store}
 use Rattle.codes.specs.declared.Place.{Place}
-use Rattle.codes.specs.declared.Place.TheVariants.{At, Step, Disp, Abs8, Abs16, Abs24}
 use Rattle.codes.specs.declared.Instruction.{Instruction}
 use Rattle.codes.specs.declared.Instruction.TheVariants.{Nop, Stc, LdcReg, Ccr, Alu, IncDec, AddsSubs, Decimal, Shift, Unary, Multiply, Divide, Takes, Gives, Move, Bcc, Jmp, Bsr, Jsr, Rts}
 use Rattle.codes.specs.declared.Decoded.{Decoded}

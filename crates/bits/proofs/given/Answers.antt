@@ -1,5 +1,4 @@
 use Rattle.bits.specs.Effects.{given_of}
-use borrow.Author.Rules.{rules}
 use Rattle.bits.proofs.given.Goals as goal
 
 pub returns-in-Bset : goal.returns-in-Bset

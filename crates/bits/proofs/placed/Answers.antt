@@ -2,7 +2,6 @@ use native.Mathlib.Omega.{arith}
 use lib.Pow.{shl_exact}
 use mathlib.Core.Path.{◌∙◌, ap}
 use Prim.Native.Nat.{ℕ, ◌*◌, ◌%◌, ◌^◌}
-use borrow.Author.Rules.{rules}
 use Rattle.bits.proofs.placed.Goals as goal
 
 pub returns : goal.returns

@@ -1,6 +1,5 @@
 use mathlib.Core.Bool.{xor}
 use Rattle.bits.specs.Effects.{taken_of}
-use borrow.Author.Rules.{rules}
 use Rattle.bits.proofs.taken.Goals as goal
 
 pub returns-in-Btst : goal.returns-in-Btst

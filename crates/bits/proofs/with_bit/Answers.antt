@@ -1,7 +1,6 @@
 use Prim.Native.Nat.{◌%◌}
 use native.Mathlib.Omega.{arith}
 use Rattle.bits.proofs.Laws.{taken_away, put_in, in_range, others_stay}
-use borrow.Author.Rules.{rules}
 use Rattle.bits.proofs.with_bit.Goals as goal
 
 pub overflow_sub-result : goal.overflow_sub-result

@@ -1,5 +1,4 @@
 use Rattle.bitwork.proofs.Laws.{given_is}
-use borrow.Author.Rules.{rules}
 use Rattle.bitwork.proofs.gave.Goals as goal
 
 pub returns : goal.returns

@@ -1,5 +1,4 @@
 use Rattle.registers.specs.Parts.{part_of, with_part}
-use borrow.Author.Rules.{rules}
 use Rattle.bitwork.proofs.give.Goals as goal
 
 pub returns : goal.returns

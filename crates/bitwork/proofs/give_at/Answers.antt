@@ -4,7 +4,6 @@ use Rattle.operate.specs.declared.Deed.{Deed}
 use Rattle.moves.proofs.Laws.{no_deed}
 use Rattle.bitwork.proofs.Laws.{given_stored, noted_given}
 use Rattle.bitwork.specs.Bitwork.{gave_to, gives_at}
-use borrow.Author.Rules.{rules}
 use Rattle.bitwork.proofs.give_at.Goals as goal
 
 pub returns-in-Value : goal.returns-in-Value

@@ -1,6 +1,5 @@
 use Rattle.registers.specs.Parts.{part_of}
 use Rattle.bitwork.specs.Bitwork.{number_of}
-use borrow.Author.Rules.{rules}
 use Rattle.bitwork.proofs.number.Goals as goal
 
 pub returns-in-Numbered : goal.returns-in-Numbered

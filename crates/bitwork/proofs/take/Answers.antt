@@ -1,6 +1,5 @@
 use Rattle.registers.specs.Parts.{part_of}
 use mathlib.Core.Path.{sym}
-use borrow.Author.Rules.{rules}
 use Rattle.bitwork.proofs.take.Goals as goal
 
 pub returns : goal.returns

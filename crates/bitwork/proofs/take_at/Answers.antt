@@ -3,7 +3,6 @@ use Rattle.memory.specs.Trail.{got_noted}
 use Rattle.moves.specs.Moves.{address_of, step_over}
 use Rattle.moves.proofs.Laws.{no_deed}
 use Rattle.bitwork.specs.Bitwork.{took_from, takes_at}
-use borrow.Author.Rules.{rules}
 use Rattle.bitwork.proofs.take_at.Goals as goal
 
 pub returns-in-Value : goal.returns-in-Value

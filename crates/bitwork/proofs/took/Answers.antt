@@ -1,5 +1,4 @@
 use Rattle.bitwork.proofs.Laws.{taken_is}
-use borrow.Author.Rules.{rules}
 use Rattle.bitwork.proofs.took.Goals as goal
 
 pub returns : goal.returns

@@ -1,4 +1,3 @@
-use borrow.Author.Rules.{rules}
 use Rattle.encoder.proofs.Stored.{refuses, answers}
 use Rattle.encoder.proofs.encode.Goals as goal
 

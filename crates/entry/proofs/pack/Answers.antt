@@ -1,5 +1,4 @@
 use Rattle.entry.specs.Entry.{pack_of}
-use borrow.Author.Rules.{rules}
 use Rattle.entry.proofs.pack.Goals as goal
 
 pub returns-in-Nop : goal.returns-in-Nop

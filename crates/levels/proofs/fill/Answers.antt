@@ -5,7 +5,6 @@ use Rattle.codes.proofs.Laws.{bytes_of}
 use Rattle.listing.specs.Listing.{flow_at}
 use Rattle.listing.proofs.Listed.{listing}
 use Rattle.levels.proofs.Filled.{fitting_is, off, on, entry_row, filled}
-use borrow.Author.Rules.{rules}
 use Rattle.levels.proofs.fill.Goals as goal
 
 pub returns-then-not-fit : goal.returns-then-not-fit

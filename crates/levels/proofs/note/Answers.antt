@@ -1,16 +1,14 @@
-use mathlib.Core.Path.{◌≡◌, refl, ap, ◌∙◌}
-use Prim.Native.Nat.{◌-◌, ◌%◌, ◌≤◌}
+use mathlib.Core.Path.{refl, ap, ◌∙◌}
+use Prim.Native.Nat.{◌-◌}
 use native.Mathlib.Nat.{le_refl}
 use native.Mathlib.Omega.{arith}
 use lib.ListN.{length, length-set}
-use borrow.Author.Rules.{rules}
 use Rattle.codes.proofs.Laws.{bytes_of}
 use Rattle.listing.specs.Listing.{flow_at}
 use Rattle.listing.proofs.Listed.{listing}
 use Rattle.paths.specs.declared.Flow.{Flow}
 use Rattle.paths.specs.MirrorPacked.{notes_of}
 use Rattle.paths.proofs.Table.{stored_length, stored_rest}
-use Rattle.levels.specs.Levels.{Rest, NotedFrom}
 use Rattle.levels.proofs.Turns.{one_note}
 use Rattle.levels.proofs.note.Goals as goal
 

@@ -1,14 +1,9 @@
-use mathlib.Core.Path.{◌≡◌, refl}
-use Prim.Native.Nat.{◌+◌, ◌-◌, ◌*◌, ◌%◌, ◌≤◌}
-use native.Mathlib.Omega.{arith}
-use lib.ListN.{length, length-set}
-use borrow.Author.Rules.{rules}
-use Rattle.codes.proofs.Laws.{bytes_of}
+use mathlib.Core.Path.{◌≡◌}
+use Prim.Native.Nat.{◌-◌, ◌*◌, ◌%◌, ◌≤◌}
+use lib.ListN.{length}
 use Rattle.site.specs.declared.Site.{Site}
 use Rattle.listing.specs.Listing.{flow_at}
-use Rattle.listing.proofs.Listed.{listing}
 use Rattle.levels.specs.Levels.{Ready, Reached}
-use Rattle.levels.proofs.Turns.{at_first, from_higher, one_row, row_small}
 use Rattle.levels.proofs.stretch.Given as goal
 
 -- `stretch` meets its contract, from the top down. Assumes nothing.

@@ -1,17 +1,15 @@
-use mathlib.Core.Path.{◌≡◌, refl, sym, ap, ◌∙◌}
+use mathlib.Core.Path.{◌≡◌, refl, ap, ◌∙◌}
 use mathlib.Core.Logic.{⊎_elim}
 use mathlib.Core.List.{List}
 use Prim.Native.Nat.{ℕ, ◌+◌, ◌-◌, ◌%◌, ◌≤◌, ◌<◌}
 use native.Mathlib.Nat.{le_refl}
 use native.Mathlib.Omega.{arith}
-use lib.ListN.{length, get_or, set, length-set}
-use lib.Seq.{get_or-set_same, get_or-set_other}
-use borrow.Author.Rules.{rules}
+use lib.ListN.{length, get_or, length-set}
 use Rattle.paths.specs.declared.Reckoned.{Reckoned}
 use Rattle.paths.specs.MirrorRows.{level_of, shown_of}
 use Rattle.paths.proofs.Laws.{le_or}
 use Rattle.paths.proofs.Table.{stored, stored_length, stored_rest, stored_before, stored_at, stored_above}
-use Rattle.levels.specs.Levels.{Rest, ShownFrom}
+use Rattle.levels.specs.Levels.{ShownFrom}
 use Rattle.levels.proofs.unpack.Goals as goal
 
 -- a row that still stands as it was
@@ -31,7 +29,6 @@ module _ (len : ℕ) (t t₀ : List ℕ) (p : ℕ) (r : Reckoned) where
       (λ (y : p - 2 < q). let at = R q (omega arith) x l in
       (stored_above t (p - 2) r.figure r.low q (omega arith) ∙ at.0, stored_above t (p - 2) r.figure r.low (q + 1) (omega arith) ∙ at.1))
       (le_or q (p - 2))
-
 
 pub loop-p-init : goal.loop-p-init
 loop-p-init c = (le_refl _, c.requires.even, refl, (λ q h e l. absurd (omega arith)), (λ i h. refl), (λ i h. refl))

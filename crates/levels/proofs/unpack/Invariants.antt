@@ -1,16 +1,6 @@
-use mathlib.Core.Path.{◌≡◌, refl, sym, ap, ◌∙◌}
-use mathlib.Core.Logic.{⊎_elim}
-use mathlib.Core.List.{List}
-use Prim.Native.Nat.{ℕ, ◌+◌, ◌-◌, ◌%◌, ◌≤◌, ◌<◌}
-use native.Mathlib.Nat.{le_refl}
-use native.Mathlib.Omega.{arith}
-use lib.ListN.{length, get_or, set, length-set}
-use lib.Seq.{get_or-set_same, get_or-set_other}
-use borrow.Author.Rules.{rules}
-use Rattle.paths.specs.declared.Reckoned.{Reckoned}
-use Rattle.paths.specs.MirrorRows.{level_of, shown_of}
-use Rattle.paths.proofs.Laws.{le_or}
-use Rattle.paths.proofs.Table.{stored, stored_length, stored_rest, stored_before, stored_at, stored_above}
+use mathlib.Core.Path.{◌≡◌}
+use Prim.Native.Nat.{ℕ, ◌%◌, ◌≤◌, ◌<◌}
+use lib.ListN.{length, get_or}
 use Rattle.levels.specs.Levels.{Rest, ShownFrom}
 use Rattle.levels.proofs.unpack.Given as goal
 

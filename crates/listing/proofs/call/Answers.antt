@@ -1,6 +1,5 @@
 use Rattle.listing.specs.Listing.{call_flow}
 use Rattle.listing.proofs.Counted.{call_at}
-use borrow.Author.Rules.{rules}
 use Rattle.listing.proofs.call.Goals as goal
 
 pub returns-in-ByReg : goal.returns-in-ByReg

@@ -2,7 +2,6 @@ use mathlib.Core.Path.{◌∙◌}
 use mathlib.Core.Logic.{⊎_elim}
 use Prim.Native.Nat.{◌+◌}
 use lib.ListN.{get_or}
-use borrow.Author.Rules.{rules}
 use Rattle.listing.proofs.Words.{branch_word, told_word}
 use Rattle.listing.proofs.glance.Goals as goal
 

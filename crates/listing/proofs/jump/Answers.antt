@@ -1,5 +1,4 @@
 use Rattle.listing.specs.Listing.{jump_flow}
-use borrow.Author.Rules.{rules}
 use Rattle.listing.proofs.jump.Goals as goal
 
 pub returns-in-ByReg : goal.returns-in-ByReg

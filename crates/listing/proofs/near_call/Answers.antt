@@ -1,5 +1,4 @@
 use Rattle.listing.proofs.Counted.{call_near, call_far}
-use borrow.Author.Rules.{rules}
 use Rattle.listing.proofs.near_call.Goals as goal
 
 pub returns-in-Near : goal.returns-in-Near

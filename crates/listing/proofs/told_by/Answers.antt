@@ -1,6 +1,5 @@
 use mathlib.Core.Path.{refl}
 use mathlib.Core.Logic.{inl, inr}
-use borrow.Author.Rules.{rules}
 use borrow.Author.Tests.{ne_eqb}
 use Rattle.timing.specs.Made.{base_of, most_of}
 use Rattle.listing.proofs.told_by.Goals as goal
@@ -40,12 +39,12 @@ returns-in-7 c = inl refl
 pub returns-in_default : goal.returns-in_default
 unfolding most_of base_of
 returns-in_default c = inr (λ b. let r = c.in_default.in_default-own.rest in rw (
-      ne_eqb _ _ r.0.0.0.0.0.0.0.1,
-      ne_eqb _ _ r.0.0.0.0.0.0.1,
-      ne_eqb _ _ r.0.0.0.0.0.1,
-      ne_eqb _ _ r.0.0.0.0.1,
-      ne_eqb _ _ r.0.0.0.1,
-      ne_eqb _ _ r.0.0.1,
-      ne_eqb _ _ r.0.1,
-      ne_eqb _ _ r.1,
-    ) (refl, refl))
+  ne_eqb _ _ r.0.0.0.0.0.0.0.1,
+  ne_eqb _ _ r.0.0.0.0.0.0.1,
+  ne_eqb _ _ r.0.0.0.0.0.1,
+  ne_eqb _ _ r.0.0.0.0.1,
+  ne_eqb _ _ r.0.0.0.1,
+  ne_eqb _ _ r.0.0.1,
+  ne_eqb _ _ r.0.1,
+  ne_eqb _ _ r.1,
+) (refl, refl))

@@ -1,6 +1,5 @@
 use mathlib.Core.Path.{refl}
 use mathlib.Core.Logic.{inl, inr}
-use borrow.Author.Rules.{rules}
 use Rattle.arith.specs.declared.Width.TheVariants.{Byte, Word}
 use Rattle.codes.specs.declared.Place.TheVariants.{At, Step}
 use Rattle.timing.specs.Made.{base_of, most_at, most_of}

@@ -1,6 +1,5 @@
 use Rattle.moves.proofs.Laws.{next_pushed, noted_stored, noted_pushed}
 use Rattle.arith.specs.declared.Width.TheVariants.{Long}
-use borrow.Author.Rules.{rules}
 use Rattle.moves.proofs.call.Goals as goal
 
 pub returns : goal.returns

@@ -1,4 +1,3 @@
-use borrow.Author.Rules.{rules}
 use Rattle.moves.proofs.flagged.Goals as goal
 
 pub returns : goal.returns

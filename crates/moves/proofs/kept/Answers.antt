@@ -1,5 +1,4 @@
 use Rattle.moves.specs.MirrorMoves.{kept_of}
-use borrow.Author.Rules.{rules}
 use Rattle.moves.proofs.kept.Goals as goal
 
 pub returns-in-Stored : goal.returns-in-Stored

@@ -3,7 +3,6 @@ use Rattle.operate.specs.Operate.{operated_of}
 use Rattle.memory.specs.Trail.{got_noted}
 use Rattle.moves.proofs.Laws.{no_deed}
 use Rattle.moves.specs.Moves.{address_of, step_over, loaded_of, load_of}
-use borrow.Author.Rules.{rules}
 use Rattle.moves.proofs.load.Goals as goal
 
 pub returns-in-Value : goal.returns-in-Value

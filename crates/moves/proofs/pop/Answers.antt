@@ -3,7 +3,6 @@ use Rattle.registers.specs.Parts.{part_of}
 use Rattle.memory.specs.Trail.{got_noted}
 use Rattle.moves.proofs.Laws.{raised_loaded, no_deed}
 use Rattle.moves.specs.Moves.{address_of, loaded_of, load_of}
-use borrow.Author.Rules.{rules}
 use Rattle.moves.proofs.pop.Goals as goal
 
 pub returns-in-Value : goal.returns-in-Value

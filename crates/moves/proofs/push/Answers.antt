@@ -1,6 +1,4 @@
-use mathlib.Core.Path.{sym}
 use Rattle.moves.proofs.Laws.{part_pushed, noted_stored, noted_pushed}
-use borrow.Author.Rules.{rules}
 use Rattle.moves.proofs.push.Goals as goal
 
 pub returns : goal.returns

@@ -1,5 +1,4 @@
 use Rattle.moves.specs.Moves.{stored_of}
-use borrow.Author.Rules.{rules}
 use Rattle.moves.proofs.restored.Goals as goal
 
 pub returns-in-Stored : goal.returns-in-Stored

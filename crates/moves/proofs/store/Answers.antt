@@ -2,7 +2,6 @@ use Rattle.moves.proofs.Laws.{part_stored, noted_kept}
 use mathlib.Core.Path.{sym, ◌∙◌, ap}
 use Rattle.operate.specs.declared.Deed.{Deed}
 use Rattle.moves.specs.Moves.{address_of, step_over}
-use borrow.Author.Rules.{rules}
 use Rattle.moves.proofs.store.Goals as goal
 
 pub returns : goal.returns

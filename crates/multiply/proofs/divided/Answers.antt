@@ -1,6 +1,5 @@
 use Rattle.registers.specs.Parts.{with_part}
 use Rattle.multiply.specs.Multiply.{divided_of, put_of}
-use borrow.Author.Rules.{rules}
 use Rattle.multiply.proofs.divided.Goals as goal
 
 pub returns-in-Divided : goal.returns-in-Divided

@@ -1,6 +1,5 @@
 use Rattle.registers.specs.Parts.{part_of}
 use Rattle.multiply.specs.Multiply.{divide_of, quotients_of}
-use borrow.Author.Rules.{rules}
 use Rattle.multiply.proofs.divxs.Goals as goal
 
 pub returns : goal.returns

@@ -1,6 +1,5 @@
 use Rattle.registers.specs.Parts.{part_of, with_part}
 use Rattle.multiply.specs.Multiply.{multiply_of, put_of}
-use borrow.Author.Rules.{rules}
 use Rattle.multiply.proofs.mulxs.Goals as goal
 
 pub returns : goal.returns

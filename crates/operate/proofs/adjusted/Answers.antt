@@ -1,6 +1,5 @@
 use Rattle.registers.specs.Parts.{with_part}
 use Rattle.operate.specs.Operate.{adjusted_of, added_of}
-use Rattle.std.proofs.Common.{rules}
 use Rattle.operate.proofs.adjusted.Goals as goal
 
 pub returns-in-Adding : goal.returns-in-Adding

@@ -1,6 +1,5 @@
 use Rattle.registers.specs.Parts.{part_of}
 use Rattle.operate.specs.Operate.{operated_of}
-use Rattle.std.proofs.Common.{rules}
 use Rattle.operate.proofs.cmp.Goals as goal
 
 pub returns : goal.returns

@@ -1,6 +1,5 @@
 use Rattle.registers.specs.Parts.{part_of}
 use Rattle.operate.specs.Operate.{decimal_of, row_of}
-use Rattle.std.proofs.Common.{rules}
 use Rattle.operate.proofs.daa.Goals as goal
 
 pub returns : goal.returns

@@ -1,6 +1,5 @@
 use Rattle.registers.specs.Parts.{part_of, with_part}
 use Rattle.operate.specs.Operate.{unary_of}
-use Rattle.std.proofs.Common.{rules}
 use Rattle.operate.proofs.extu.Goals as goal
 
 pub returns : goal.returns

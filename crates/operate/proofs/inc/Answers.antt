@@ -1,5 +1,4 @@
 use Rattle.registers.specs.Parts.{part_of, with_part}
-use Rattle.std.proofs.Common.{rules}
 use Rattle.operate.proofs.inc.Goals as goal
 
 pub returns : goal.returns

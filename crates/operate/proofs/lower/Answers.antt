@@ -1,7 +1,7 @@
 use Rattle.registers.specs.Parts.{part_of, with_part}
 use Rattle.operate.specs.Operate.{carried_of}
 use Rattle.operate.proofs.Laws.{lowered}
-use Rattle.std.proofs.Common.{arith, rules}
+use Rattle.std.proofs.Common.{arith}
 use Rattle.operate.proofs.lower.Goals as goal
 
 pub returns : goal.returns

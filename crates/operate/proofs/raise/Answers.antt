@@ -1,7 +1,6 @@
 use Rattle.registers.specs.Parts.{part_of, with_part}
 use Rattle.operate.specs.Operate.{carried_of}
 use Rattle.operate.proofs.Laws.{raised}
-use Rattle.std.proofs.Common.{rules}
 use Rattle.operate.proofs.raise.Goals as goal
 
 pub returns : goal.returns

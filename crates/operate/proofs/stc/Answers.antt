@@ -1,6 +1,5 @@
-use Rattle.registers.specs.Parts.{part_of, with_part}
+use Rattle.registers.specs.Parts.{with_part}
 use Rattle.operate.specs.Operate.{stc_of}
-use Rattle.std.proofs.Common.{rules}
 use Rattle.operate.proofs.stc.Goals as goal
 
 pub returns : goal.returns

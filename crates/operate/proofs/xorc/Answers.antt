@@ -1,5 +1,4 @@
 use Rattle.operate.specs.Operate.{ccr_of, changed}
-use Rattle.std.proofs.Common.{rules}
 use Rattle.operate.proofs.xorc.Goals as goal
 
 pub returns : goal.returns

@@ -1,6 +1,5 @@
 use mathlib.Core.Bool.{xor}
 use Rattle.step.specs.Follow.{holds_of}
-use borrow.Author.Rules.{rules}
 use Rattle.step.proofs.holds.Goals as goal
 
 pub returns : goal.returns

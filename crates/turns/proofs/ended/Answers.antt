@@ -1,5 +1,4 @@
 use Rattle.turns.specs.MirrorTurn.{ended_of}
-use borrow.Author.Rules.{rules}
 use Rattle.turns.proofs.ended.Goals as goal
 
 pub returns-in-Done : goal.returns-in-Done

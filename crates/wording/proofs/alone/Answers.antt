@@ -1,6 +1,5 @@
 use Rattle.wording.specs.MirrorAlone.{alone_text}
 use borrow.Author.Tests.{ne_eqb}
-use borrow.Author.Rules.{rules}
 use Rattle.wording.proofs.alone.Goals as goal
 
 pub returns-in-1 : goal.returns-in-1

@@ -1,6 +1,5 @@
 use Rattle.wording.specs.Standing.{byte_text}
 use borrow.Author.Tests.{lt-ltb, le-ltb}
-use borrow.Author.Rules.{rules}
 use Rattle.wording.proofs.byte.Goals as goal
 
 pub returns-then-at-rom : goal.returns-then-at-rom

@@ -1,10 +1,8 @@
-use mathlib.Core.Path.{◌≡◌, refl, sym, ap}
-use mathlib.Core.List.{List, []}
-use Prim.Native.Nat.{ℕ, suc, ◌+◌, ◌≤◌, ◌-◌}
+use mathlib.Core.Path.{◌≡◌, refl}
 use native.Mathlib.Numerals.{add-one}
 use native.Mathlib.Omega.{arith}
 use borrow.Author.Rules.{rules}
-use Rattle.text.specs.Lines.{added, Adds}
+use Rattle.text.specs.Lines.{added}
 use Rattle.text.proofs.Adding.{more}
 use Rattle.wording.specs.Standing.{bytes_at}
 use Rattle.wording.proofs.bytes.Goals as goal

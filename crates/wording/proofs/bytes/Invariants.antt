@@ -1,11 +1,5 @@
-use mathlib.Core.Path.{◌≡◌, refl, sym, ap}
-use mathlib.Core.List.{List, []}
-use Prim.Native.Nat.{ℕ, suc, ◌+◌, ◌≤◌, ◌-◌}
-use native.Mathlib.Numerals.{add-one}
-use native.Mathlib.Omega.{arith}
-use borrow.Author.Rules.{rules}
-use Rattle.text.specs.Lines.{added, Adds}
-use Rattle.text.proofs.Adding.{more}
+use Prim.Native.Nat.{◌≤◌, ◌-◌}
+use Rattle.text.specs.Lines.{Adds}
 use Rattle.wording.specs.Standing.{bytes_at}
 use Rattle.wording.proofs.bytes.Given as goal
 

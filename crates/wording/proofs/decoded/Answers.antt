@@ -2,7 +2,6 @@ use mathlib.Core.Path.{◌∙◌}
 use lib.ListN.{drop_of_length-le}
 use Rattle.listing.specs.Listing.{decoded_at}
 use Rattle.listing.proofs.Part.{part_decoded}
-use borrow.Author.Rules.{rules}
 use Rattle.wording.proofs.decoded.Goals as goal
 
 pub returns-then-at-rom : goal.returns-then-at-rom

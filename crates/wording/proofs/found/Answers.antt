@@ -1,4 +1,3 @@
-use borrow.Author.Rules.{rules}
 use Rattle.wording.proofs.found.Goals as goal
 
 pub returns-in-Code : goal.returns-in-Code

@@ -1,6 +1,5 @@
 use Rattle.wording.specs.Refusals.{group_name}
 use borrow.Author.Tests.{ne_eqb}
-use borrow.Author.Rules.{rules}
 use Rattle.wording.proofs.group_name.Goals as goal
 
 pub returns-in-3 : goal.returns-in-3

@@ -1,6 +1,5 @@
 use Rattle.wording.specs.Standing.{no_code_text}
 use borrow.Author.Tests.{eq-eqb, ne_eqb}
-use borrow.Author.Rules.{rules}
 use Rattle.wording.proofs.no_code.Goals as goal
 
 pub returns-then-number-eq4 : goal.returns-then-number-eq4

@@ -1,7 +1,6 @@
 use Rattle.wording.specs.Standing.{not_held_text}
 use Rattle.text.proofs.Adding.{more}
 use borrow.Author.Tests.{eq-eqb, ne_eqb}
-use borrow.Author.Rules.{rules}
 use Rattle.wording.proofs.not_held.Goals as goal
 
 pub returns-then-g-eq0 : goal.returns-then-g-eq0

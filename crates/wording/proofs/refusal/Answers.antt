@@ -1,5 +1,4 @@
 use Rattle.wording.specs.MirrorAlone.{alone_text}
-use borrow.Author.Rules.{rules}
 use Rattle.wording.proofs.refusal.Goals as goal
 
 pub returns-in-BadBoard : goal.returns-in-BadBoard

@@ -1,6 +1,5 @@
 use Rattle.wording.specs.Standing.{stands_at}
 use borrow.Author.Tests.{le-leb, lt-leb}
-use borrow.Author.Rules.{rules}
 use Rattle.wording.proofs.stands.Goals as goal
 
 pub returns-then-rom-at : goal.returns-then-rom-at

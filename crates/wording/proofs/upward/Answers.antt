@@ -1,6 +1,5 @@
 use Rattle.text.specs.Numbers.{figures_of}
 use Rattle.text.proofs.Adding.{more}
-use borrow.Author.Rules.{rules}
 use Rattle.wording.proofs.upward.Goals as goal
 
 pub returns : goal.returns

@@ -1,4 +1,3 @@
-use borrow.Author.Rules.{rules}
 use Rattle.decoder.proofs.plan.divide.Goals as goal
 
 pub returns : goal.returns

@@ -1,5 +1,4 @@
 use mathlib.Core.Path.{sym, ◌∙◌}
-use borrow.Author.Rules.{rules}
 use Rattle.decoder.proofs.plan.e_zero.Goals as goal
 
 pub returns-then-is_e_zero : goal.returns-then-is_e_zero

@@ -1,4 +1,3 @@
-use borrow.Author.Rules.{rules}
 use Rattle.decoder.proofs.plan.held.Goals as goal
 
 pub returns-in-Byte : goal.returns-in-Byte

@@ -1,4 +1,3 @@
-use borrow.Author.Rules.{rules}
 use Rattle.decoder.proofs.plan.moves.Goals as goal
 
 pub returns-in-Plain : goal.returns-in-Plain

@@ -1,5 +1,4 @@
-use mathlib.Core.Path.{ap, ◌∙◌}
-use borrow.Author.Rules.{rules}
+use mathlib.Core.Path.{◌∙◌}
 use Rattle.codes.proofs.Laws.{rest_of}
 use Rattle.decoder.proofs.Planned.{too_few, enough}
 use Rattle.decoder.proofs.whole.begins.Goals as goal

@@ -1,5 +1,4 @@
 use lib.ListN.{get_or-eq_default}
-use borrow.Author.Rules.{rules}
 use mathlib.Core.Path.{sym}
 use Rattle.decoder.proofs.whole.byte_at.Goals as goal
 

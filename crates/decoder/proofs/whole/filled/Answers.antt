@@ -1,4 +1,3 @@
-use borrow.Author.Rules.{rules}
 use Rattle.decoder.proofs.whole.filled.Goals as goal
 
 pub returns-in-Imm16 : goal.returns-in-Imm16

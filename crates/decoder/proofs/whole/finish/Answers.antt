@@ -1,4 +1,3 @@
-use borrow.Author.Rules.{rules}
 use Rattle.decoder.proofs.whole.finish.Goals as goal
 
 pub returns-in-Whole : goal.returns-in-Whole

@@ -1,5 +1,4 @@
 use mathlib.Core.Path.{sym, ◌∙◌}
-use borrow.Author.Rules.{rules}
 use Rattle.decoder.proofs.whole.lead.Goals as goal
 
 pub returns-then-two_words : goal.returns-then-two_words

@@ -1,4 +1,3 @@
-use borrow.Author.Rules.{rules}
 use Rattle.decoder.proofs.whole.more.Goals as goal
 
 pub returns-in-Bits16 : goal.returns-in-Bits16

@@ -1,5 +1,4 @@
 use mathlib.Core.Path.{sym, ap, ◌∙◌}
-use borrow.Author.Rules.{rules}
 use Rattle.decoder.specs.MirrorDecode.{two_words}
 use Rattle.decoder.proofs.whole.planned.Goals as goal
 

@@ -1,4 +1,3 @@
-use borrow.Author.Rules.{rules}
 use borrow.Author.Tests.{eq-eqb, ne_eqb}
 use Rattle.decoder.proofs.whole.short.Goals as goal
 
@@ -10,16 +9,16 @@ returns-then-s-eq1 c = simp (ne_eqb _ _ c.if-s-eq0.false, eq-eqb _ _ c.if-s-eq1.
 
 pub returns-then-s-eq2 : goal.returns-then-s-eq2
 returns-then-s-eq2 c = simp (
-      ne_eqb _ _ c.if-s-eq0.false,
-      ne_eqb _ _ c.if-s-eq1.false,
-      eq-eqb _ _ c.if-s-eq2.true,
-      c.prefix.ensures,
-    )
+  ne_eqb _ _ c.if-s-eq0.false,
+  ne_eqb _ _ c.if-s-eq1.false,
+  eq-eqb _ _ c.if-s-eq2.true,
+  c.prefix.ensures,
+)
 
 pub returns : goal.returns
 returns c = simp (
-      ne_eqb _ _ c.if-s-eq0.false,
-      ne_eqb _ _ c.if-s-eq1.false,
-      ne_eqb _ _ c.if-s-eq2.false,
-      c.begun.ensures,
-    )
+  ne_eqb _ _ c.if-s-eq0.false,
+  ne_eqb _ _ c.if-s-eq1.false,
+  ne_eqb _ _ c.if-s-eq2.false,
+  c.begun.ensures,
+)

@@ -18,9 +18,9 @@ returns-in-127 c = rw c.in-127.is
 
 pub returns-in_default : goal.returns-in_default
 returns-in_default c = let r = c.in_default.in_default-own.rest in simp (
-      ne_eqb _ _ r.0.0.0.0.1,
-      ne_eqb _ _ r.0.0.0.1,
-      ne_eqb _ _ r.0.0.1,
-      ne_eqb _ _ r.0.1,
-      ne_eqb _ _ r.1,
-    )
+  ne_eqb _ _ r.0.0.0.0.1,
+  ne_eqb _ _ r.0.0.0.1,
+  ne_eqb _ _ r.0.0.1,
+  ne_eqb _ _ r.0.1,
+  ne_eqb _ _ r.1,
+)

@@ -1,4 +1,3 @@
-use borrow.Author.Rules.{rules}
 use borrow.Author.Tests.{lt-ltb, le-ltb}
 use Rattle.decoder.proofs.whole.with_16.Goals as goal
 
@@ -7,8 +6,8 @@ returns-then-rest-lt2 c = rw (lt-ltb _ _ c.if-rest-lt2.true)
 
 pub returns : goal.returns
 returns c = simp (
-      le-ltb _ _ c.if-rest-lt2.false,
-      c.filled.ensures,
-      c.wide-2.ensures.0,
-      c.wide.ensures.0,
-    )
+  le-ltb _ _ c.if-rest-lt2.false,
+  c.filled.ensures,
+  c.wide-2.ensures.0,
+  c.wide.ensures.0,
+)

@@ -1,4 +1,3 @@
-use borrow.Author.Rules.{rules}
 use borrow.Author.Tests.{lt-ltb, le-ltb}
 use Rattle.decoder.proofs.whole.with_32.Goals as goal
 
@@ -7,10 +6,10 @@ returns-then-rest-lt4 c = rw (lt-ltb _ _ c.if-rest-lt4.true)
 
 pub returns : goal.returns
 returns c = simp (
-      le-ltb _ _ c.if-rest-lt4.false,
-      c.filled.ensures,
-      c.wide-4.ensures.0,
-      c.wide-3.ensures.0,
-      c.wide-2.ensures.0,
-      c.wide.ensures.0,
-    )
+  le-ltb _ _ c.if-rest-lt4.false,
+  c.filled.ensures,
+  c.wide-4.ensures.0,
+  c.wide-3.ensures.0,
+  c.wide-2.ensures.0,
+  c.wide.ensures.0,
+)

@@ -1,4 +1,3 @@
-use borrow.Author.Rules.{rules}
 use borrow.Author.Tests.{ne_eqb}
 use Rattle.decoder.proofs.words.after_d0.Goals as goal
 
@@ -10,6 +9,6 @@ returns-in-83 c = simp (c.in-83.is, c.divide-in-83.ensures)
 
 pub returns-in_default : goal.returns-in_default
 returns-in_default c = let r = c.in_default.in_default-own.rest in simp (
-      ne_eqb _ _ r.0.1,
-      ne_eqb _ _ r.1,
-    )
+  ne_eqb _ _ r.0.1,
+  ne_eqb _ _ r.1,
+)

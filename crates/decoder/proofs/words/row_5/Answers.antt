@@ -1,4 +1,3 @@
-use borrow.Author.Rules.{rules}
 use borrow.Author.Tests.{ne_eqb}
 use Rattle.decoder.proofs.words.row_5.Goals as goal
 
@@ -46,18 +45,18 @@ returns-in-15 c = rw c.in-15.is
 
 pub returns-in_default : goal.returns-in_default
 returns-in_default c = let r = c.in_default.in_default-own.rest in simp (
-      ne_eqb _ _ r.0.0.0.0.0.0.0.0.0.0.0.0.0.1,
-      ne_eqb _ _ r.0.0.0.0.0.0.0.0.0.0.0.0.1,
-      ne_eqb _ _ r.0.0.0.0.0.0.0.0.0.0.0.1,
-      ne_eqb _ _ r.0.0.0.0.0.0.0.0.0.0.1,
-      ne_eqb _ _ r.0.0.0.0.0.0.0.0.0.1,
-      ne_eqb _ _ r.0.0.0.0.0.0.0.0.1,
-      ne_eqb _ _ r.0.0.0.0.0.0.0.1,
-      ne_eqb _ _ r.0.0.0.0.0.0.1,
-      ne_eqb _ _ r.0.0.0.0.0.1,
-      ne_eqb _ _ r.0.0.0.0.1,
-      ne_eqb _ _ r.0.0.0.1,
-      ne_eqb _ _ r.0.0.1,
-      ne_eqb _ _ r.0.1,
-      ne_eqb _ _ r.1,
-    )
+  ne_eqb _ _ r.0.0.0.0.0.0.0.0.0.0.0.0.0.1,
+  ne_eqb _ _ r.0.0.0.0.0.0.0.0.0.0.0.0.1,
+  ne_eqb _ _ r.0.0.0.0.0.0.0.0.0.0.0.1,
+  ne_eqb _ _ r.0.0.0.0.0.0.0.0.0.0.1,
+  ne_eqb _ _ r.0.0.0.0.0.0.0.0.0.1,
+  ne_eqb _ _ r.0.0.0.0.0.0.0.0.1,
+  ne_eqb _ _ r.0.0.0.0.0.0.0.1,
+  ne_eqb _ _ r.0.0.0.0.0.0.1,
+  ne_eqb _ _ r.0.0.0.0.0.1,
+  ne_eqb _ _ r.0.0.0.0.1,
+  ne_eqb _ _ r.0.0.0.1,
+  ne_eqb _ _ r.0.0.1,
+  ne_eqb _ _ r.0.1,
+  ne_eqb _ _ r.1,
+)

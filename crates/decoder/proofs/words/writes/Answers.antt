@@ -1,4 +1,3 @@
-use borrow.Author.Rules.{rules}
 use borrow.Author.Tests.{ne_eqb}
 use Rattle.decoder.proofs.words.writes.Goals as goal
 
@@ -25,11 +24,11 @@ returns-in-114 c = simp (c.in-114.is, c.give_numbered-in-114.ensures)
 
 pub returns-in_default : goal.returns-in_default
 returns-in_default c = let r = c.in_default.in_default-own.rest in simp (
-      ne_eqb _ _ r.0.0.0.0.0.0.1,
-      ne_eqb _ _ r.0.0.0.0.0.1,
-      ne_eqb _ _ r.0.0.0.0.1,
-      ne_eqb _ _ r.0.0.0.1,
-      ne_eqb _ _ r.0.0.1,
-      ne_eqb _ _ r.0.1,
-      ne_eqb _ _ r.1,
-    )
+  ne_eqb _ _ r.0.0.0.0.0.0.1,
+  ne_eqb _ _ r.0.0.0.0.0.1,
+  ne_eqb _ _ r.0.0.0.0.1,
+  ne_eqb _ _ r.0.0.0.1,
+  ne_eqb _ _ r.0.0.1,
+  ne_eqb _ _ r.0.1,
+  ne_eqb _ _ r.1,
+)

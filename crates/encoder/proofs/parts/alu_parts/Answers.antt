@@ -1,4 +1,3 @@
-use borrow.Author.Rules.{rules}
 use Rattle.encoder.proofs.parts.alu_parts.Goals as goal
 
 pub returns-in-Reg : goal.returns-in-Reg

@@ -1,4 +1,3 @@
-use borrow.Author.Rules.{rules}
 use Rattle.encoder.proofs.parts.bcc_parts.Goals as goal
 
 pub returns-in-Near : goal.returns-in-Near

@@ -1,4 +1,3 @@
-use borrow.Author.Rules.{rules}
 use Rattle.encoder.proofs.parts.bit_parts.Goals as goal
 
 pub returns-in-Numbered : goal.returns-in-Numbered

@@ -1,4 +1,3 @@
-use borrow.Author.Rules.{rules}
 use Rattle.encoder.proofs.parts.give_parts.Goals as goal
 
 pub returns : goal.returns

@@ -1,4 +1,3 @@
-use borrow.Author.Rules.{rules}
 use Rattle.encoder.proofs.parts.parts_of.Goals as goal
 
 pub returns-in-Nop : goal.returns-in-Nop

@@ -1,4 +1,3 @@
-use borrow.Author.Rules.{rules}
 use Rattle.encoder.proofs.parts.place_parts.Goals as goal
 
 pub returns-in-At : goal.returns-in-At

@@ -1,4 +1,3 @@
-use borrow.Author.Rules.{rules}
 use Rattle.encoder.proofs.parts.product_parts.Goals as goal
 
 pub returns-in-Unsigned : goal.returns-in-Unsigned

@@ -1,4 +1,3 @@
-use borrow.Author.Rules.{rules}
 use Rattle.encoder.proofs.parts.shift_parts.Goals as goal
 
 pub returns-in-Shll : goal.returns-in-Shll

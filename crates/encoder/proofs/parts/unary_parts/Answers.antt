@@ -1,4 +1,3 @@
-use borrow.Author.Rules.{rules}
 use Rattle.encoder.proofs.parts.unary_parts.Goals as goal
 
 pub returns-in-Not : goal.returns-in-Not

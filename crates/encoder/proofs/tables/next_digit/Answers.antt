@@ -1,4 +1,3 @@
-use borrow.Author.Rules.{rules}
 use Rattle.encoder.proofs.tables.next_digit.Goals as goal
 
 pub returns-in-Mov : goal.returns-in-Mov

@@ -1,4 +1,3 @@
-use borrow.Author.Rules.{rules}
 use Rattle.encoder.proofs.tables.take_side.Goals as goal
 
 pub returns-in-Btst : goal.returns-in-Btst

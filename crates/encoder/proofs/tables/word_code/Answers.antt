@@ -1,4 +1,3 @@
-use borrow.Author.Rules.{rules}
 use Rattle.encoder.proofs.tables.word_code.Goals as goal
 
 pub returns-in-Add : goal.returns-in-Add

@@ -7,7 +7,6 @@ use denote.Enum.Declared.{tag_of}
 use Rattle.codes.specs.contracts.Op.{the_type}
 use Rattle.encoder.specs.Names.{Width, Op, Add, Sub, Cmp, Mov, Addx, Subx, Or, Xor, And}
 use Rattle.encoder.specs.MirrorValid.{is_byte, has_imm}
-use borrow.Author.Rules.{rules}
 use borrow.Enum.Refused.{opened}
 use Rattle.encoder.proofs.valid.has_imm.Goals as goal
 

@@ -1,4 +1,3 @@
-use borrow.Author.Rules.{rules}
 use Rattle.encoder.proofs.valid.has_index.Goals as goal
 
 pub returns-in-Numbered : goal.returns-in-Numbered

@@ -1,4 +1,3 @@
-use borrow.Author.Rules.{rules}
 use Rattle.encoder.proofs.valid.has_place.Goals as goal
 
 pub returns-in-At : goal.returns-in-At

@@ -1,4 +1,3 @@
-use borrow.Author.Rules.{rules}
 use Rattle.encoder.proofs.valid.has_reach.Goals as goal
 
 pub returns-in-Near : goal.returns-in-Near

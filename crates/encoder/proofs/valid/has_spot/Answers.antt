@@ -1,4 +1,3 @@
-use borrow.Author.Rules.{rules}
 use Rattle.encoder.proofs.valid.has_spot.Goals as goal
 
 pub returns-in-InPart : goal.returns-in-InPart

@@ -1,4 +1,3 @@
-use borrow.Author.Rules.{rules}
 use Rattle.encoder.proofs.valid.has_target.Goals as goal
 
 pub returns-in-ByReg : goal.returns-in-ByReg

@@ -1,4 +1,3 @@
-use borrow.Author.Rules.{rules}
 use Rattle.encoder.proofs.valid.takes_part.Goals as goal
 
 pub returns-in-Btst : goal.returns-in-Btst

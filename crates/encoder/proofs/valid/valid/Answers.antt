@@ -1,4 +1,3 @@
-use borrow.Author.Rules.{rules}
 use Rattle.encoder.proofs.valid.valid.Goals as goal
 
 pub returns-in-Nop : goal.returns-in-Nop
@@ -39,19 +38,19 @@ returns-in-Divide c = simp (c.in-Divide.is, c.has_product-in-Divide.ensures)
 
 pub returns-in-Takes : goal.returns-in-Takes
 returns-in-Takes c = simp (
-      c.in-Takes.is,
-      c.has_spot.ensures,
-      c.has_index.ensures,
-      c.takes_part.ensures,
-    )
+  c.in-Takes.is,
+  c.has_spot.ensures,
+  c.has_index.ensures,
+  c.takes_part.ensures,
+)
 
 pub returns-in-Gives : goal.returns-in-Gives
 returns-in-Gives c = simp (
-      c.in-Gives.is,
-      c.has_spot-in-Gives.ensures,
-      c.has_index-in-Gives.ensures,
-      c.gives_part.ensures,
-    )
+  c.in-Gives.is,
+  c.has_spot-in-Gives.ensures,
+  c.has_index-in-Gives.ensures,
+  c.gives_part.ensures,
+)
 
 pub returns-in-Move : goal.returns-in-Move
 returns-in-Move c = simp (c.in-Move.is, c.digit_ok-in-Move.ensures, c.has_place.ensures)

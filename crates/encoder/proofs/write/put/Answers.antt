@@ -1,4 +1,3 @@
-use borrow.Author.Rules.{rules}
 use Rattle.encoder.proofs.Stored.{no_room, room}
 use Rattle.encoder.proofs.write.put.Goals as goal
 

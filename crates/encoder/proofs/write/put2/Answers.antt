@@ -1,6 +1,5 @@
 use lib.ListN.{length-set}
 use native.Mathlib.Omega.{arith}
-use borrow.Author.Rules.{rules}
 use Rattle.encoder.proofs.write.put2.Goals as goal
 
 pub bounds-out-at-2 : goal.bounds-out-at-2

@@ -1,4 +1,3 @@
-use borrow.Author.Rules.{rules}
 use Rattle.encoder.proofs.write.put4.Goals as goal
 
 pub returns : goal.returns

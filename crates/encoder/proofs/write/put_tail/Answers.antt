@@ -1,18 +1,17 @@
 use native.Mathlib.Omega.{arith}
-use borrow.Author.Rules.{rules}
 use Rattle.encoder.proofs.write.put_tail.Goals as goal
 
 pub put2-requires : goal.put2-requires
 put2-requires c = omega (
-      arith,
-      rw c.in-Tail16.is at c.requires,
-    )
+  arith,
+  rw c.in-Tail16.is at c.requires,
+)
 
 pub put4-requires : goal.put4-requires
 put4-requires c = omega (
-      arith,
-      rw c.in-Tail32.is at c.requires,
-    )
+  arith,
+  rw c.in-Tail32.is at c.requires,
+)
 
 pub returns-in-NoTail : goal.returns-in-NoTail
 returns-in-NoTail c = rw c.in-NoTail.is

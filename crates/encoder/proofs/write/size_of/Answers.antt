@@ -1,4 +1,3 @@
-use borrow.Author.Rules.{rules}
 use Rattle.encoder.proofs.write.size_of.Goals as goal
 
 pub returns : goal.returns

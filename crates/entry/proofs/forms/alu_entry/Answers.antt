@@ -1,4 +1,3 @@
-use borrow.Author.Rules.{rules}
 use Rattle.entry.proofs.forms.alu_entry.Goals as goal
 
 pub returns-in-Reg : goal.returns-in-Reg

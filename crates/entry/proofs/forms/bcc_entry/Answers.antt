@@ -1,4 +1,3 @@
-use borrow.Author.Rules.{rules}
 use Rattle.entry.proofs.forms.bcc_entry.Goals as goal
 
 pub returns-in-Near : goal.returns-in-Near

@@ -1,4 +1,3 @@
-use borrow.Author.Rules.{rules}
 use Rattle.entry.proofs.forms.bit_entry.Goals as goal
 
 pub returns-in-InPart : goal.returns-in-InPart

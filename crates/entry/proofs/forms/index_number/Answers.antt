@@ -1,5 +1,4 @@
 use native.Mathlib.Omega.{arith}
-use borrow.Author.Rules.{rules}
 use Rattle.entry.proofs.forms.index_number.Goals as goal
 
 pub returns-in-ByPart : goal.returns-in-ByPart

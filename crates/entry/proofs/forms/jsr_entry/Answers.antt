@@ -1,4 +1,3 @@
-use borrow.Author.Rules.{rules}
 use Rattle.entry.proofs.forms.jsr_entry.Goals as goal
 
 pub returns-in-ByReg : goal.returns-in-ByReg

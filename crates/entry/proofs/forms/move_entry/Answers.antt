@@ -1,4 +1,3 @@
-use borrow.Author.Rules.{rules}
 use Rattle.entry.proofs.forms.move_entry.Goals as goal
 
 pub returns-in-At : goal.returns-in-At

@@ -1,4 +1,3 @@
-use borrow.Author.Rules.{rules}
 use Rattle.entry.proofs.forms.reg_entry.Goals as goal
 
 pub returns-in-Byte : goal.returns-in-Byte

@@ -1,4 +1,3 @@
-use borrow.Author.Rules.{rules}
 use Rattle.entry.proofs.forms.unary_entry.Goals as goal
 
 pub returns-in-Not : goal.returns-in-Not

@@ -1,5 +1,4 @@
 use Rattle.layout.specs.Board.{board_of}
-use borrow.Author.Rules.{rules}
 use Rattle.layout.proofs.lent.board_in.Goals as goal
 
 pub returns : goal.returns

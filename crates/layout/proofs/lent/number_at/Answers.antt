@@ -1,6 +1,5 @@
 use mathlib.Core.Path.{sym}
 use lib.ListN.{get_or-eq_default}
-use borrow.Author.Rules.{rules}
 use Rattle.layout.proofs.lent.number_at.Goals as goal
 
 pub returns-else-i-l : goal.returns-else-i-l

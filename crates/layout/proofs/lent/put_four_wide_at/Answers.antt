@@ -4,7 +4,6 @@ use mathlib.Core.List.{List, [], ◌∷◌}
 use lib.ListN.{set}
 use lib.Seq.{sets}
 use native.Mathlib.Omega.{arith}
-use borrow.Author.Rules.{rules}
 use Rattle.layout.proofs.lent.put_four_wide_at.Goals as goal
 
 one : (i : ℕ) → suc i ≡ i + 1

@@ -1,5 +1,4 @@
 use Rattle.layout.specs.Lent.{eight_of}
-use borrow.Author.Rules.{rules}
 use Rattle.layout.proofs.lent.put_kept.Goals as goal
 
 pub returns : goal.returns

@@ -1,5 +1,4 @@
 use Rattle.layout.specs.Registers.{ten_of}
-use borrow.Author.Rules.{rules}
 use Rattle.layout.proofs.lent.put_registers.Goals as goal
 
 pub returns : goal.returns

@@ -1,4 +1,3 @@
-use borrow.Author.Rules.{rules}
 use Rattle.layout.proofs.lent.put_six_wide.Goals as goal
 
 pub returns : goal.returns

@@ -1,6 +1,5 @@
 use mathlib.Core.Path.{sym}
 use lib.Seq.{set_out}
-use borrow.Author.Rules.{rules}
 use Rattle.layout.proofs.lent.put_wide.Goals as goal
 
 pub returns-else-i-l : goal.returns-else-i-l

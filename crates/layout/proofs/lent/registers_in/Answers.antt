@@ -1,5 +1,4 @@
 use Rattle.layout.specs.Registers.{registers_of}
-use borrow.Author.Rules.{rules}
 use Rattle.layout.proofs.lent.registers_in.Goals as goal
 
 pub returns : goal.returns

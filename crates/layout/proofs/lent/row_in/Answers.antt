@@ -1,5 +1,4 @@
 use Rattle.layout.specs.MirrorLent.{row_in}
-use borrow.Author.Rules.{rules}
 use Rattle.layout.proofs.lent.row_in.Goals as goal
 
 pub returns : goal.returns

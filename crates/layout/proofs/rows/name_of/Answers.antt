@@ -1,5 +1,4 @@
 use Rattle.layout.specs.MirrorRows.{named_of}
-use borrow.Author.Rules.{rules}
 use Rattle.layout.proofs.rows.name_of.Goals as goal
 
 pub returns : goal.returns

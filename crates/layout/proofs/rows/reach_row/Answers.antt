@@ -1,4 +1,3 @@
-use borrow.Author.Rules.{rules}
 use Rattle.layout.proofs.rows.reach_row.Goals as goal
 
 pub returns-in-Near : goal.returns-in-Near

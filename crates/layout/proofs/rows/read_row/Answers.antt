@@ -1,6 +1,5 @@
 use borrow.Author.Tests.{ne_eqb}
 use Rattle.layout.specs.MirrorRows.{read_row}
-use borrow.Author.Rules.{rules}
 use Rattle.layout.proofs.rows.read_row.Goals as goal
 
 pub returns-in-0 : goal.returns-in-0
@@ -82,26 +81,26 @@ returns-in-18 c = rw c.in-18.is (simp (c.spot_at.ensures, c.index_at.ensures, c.
 pub returns-in_default : goal.returns-in_default
 unfolding read_row
 returns-in_default c = let r = c.in_default.in_default-own.rest in simp (
-      ne_eqb _ _ r.0.0.0.0.0.0.0.0.0.0.0.0.0.0.0.0.0.0.1,
-      ne_eqb _ _ r.0.0.0.0.0.0.0.0.0.0.0.0.0.0.0.0.0.1,
-      ne_eqb _ _ r.0.0.0.0.0.0.0.0.0.0.0.0.0.0.0.0.1,
-      ne_eqb _ _ r.0.0.0.0.0.0.0.0.0.0.0.0.0.0.0.1,
-      ne_eqb _ _ r.0.0.0.0.0.0.0.0.0.0.0.0.0.0.1,
-      ne_eqb _ _ r.0.0.0.0.0.0.0.0.0.0.0.0.0.1,
-      ne_eqb _ _ r.0.0.0.0.0.0.0.0.0.0.0.0.1,
-      ne_eqb _ _ r.0.0.0.0.0.0.0.0.0.0.0.1,
-      ne_eqb _ _ r.0.0.0.0.0.0.0.0.0.0.1,
-      ne_eqb _ _ r.0.0.0.0.0.0.0.0.0.1,
-      ne_eqb _ _ r.0.0.0.0.0.0.0.0.1,
-      ne_eqb _ _ r.0.0.0.0.0.0.0.1,
-      ne_eqb _ _ r.0.0.0.0.0.0.1,
-      ne_eqb _ _ r.0.0.0.0.0.1,
-      ne_eqb _ _ r.0.0.0.0.1,
-      ne_eqb _ _ r.0.0.0.1,
-      ne_eqb _ _ r.0.0.1,
-      ne_eqb _ _ r.0.1,
-      ne_eqb _ _ r.1,
-      c.spot_at-in_default.ensures,
-      c.index_at-in_default.ensures,
-      c.give_at.ensures,
-    )
+  ne_eqb _ _ r.0.0.0.0.0.0.0.0.0.0.0.0.0.0.0.0.0.0.1,
+  ne_eqb _ _ r.0.0.0.0.0.0.0.0.0.0.0.0.0.0.0.0.0.1,
+  ne_eqb _ _ r.0.0.0.0.0.0.0.0.0.0.0.0.0.0.0.0.1,
+  ne_eqb _ _ r.0.0.0.0.0.0.0.0.0.0.0.0.0.0.0.1,
+  ne_eqb _ _ r.0.0.0.0.0.0.0.0.0.0.0.0.0.0.1,
+  ne_eqb _ _ r.0.0.0.0.0.0.0.0.0.0.0.0.0.1,
+  ne_eqb _ _ r.0.0.0.0.0.0.0.0.0.0.0.0.1,
+  ne_eqb _ _ r.0.0.0.0.0.0.0.0.0.0.0.1,
+  ne_eqb _ _ r.0.0.0.0.0.0.0.0.0.0.1,
+  ne_eqb _ _ r.0.0.0.0.0.0.0.0.0.1,
+  ne_eqb _ _ r.0.0.0.0.0.0.0.0.1,
+  ne_eqb _ _ r.0.0.0.0.0.0.0.1,
+  ne_eqb _ _ r.0.0.0.0.0.0.1,
+  ne_eqb _ _ r.0.0.0.0.0.1,
+  ne_eqb _ _ r.0.0.0.0.1,
+  ne_eqb _ _ r.0.0.0.1,
+  ne_eqb _ _ r.0.0.1,
+  ne_eqb _ _ r.0.1,
+  ne_eqb _ _ r.1,
+  c.spot_at-in_default.ensures,
+  c.index_at-in_default.ensures,
+  c.give_at.ensures,
+)

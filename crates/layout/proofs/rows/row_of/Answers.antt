@@ -1,5 +1,4 @@
 use Rattle.layout.specs.Rows.{row_of}
-use borrow.Author.Rules.{rules}
 use Rattle.layout.proofs.rows.row_of.Goals as goal
 
 pub returns-in-Nop : goal.returns-in-Nop

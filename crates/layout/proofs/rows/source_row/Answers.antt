@@ -1,4 +1,3 @@
-use borrow.Author.Rules.{rules}
 use Rattle.layout.proofs.rows.source_row.Goals as goal
 
 pub returns-in-Reg : goal.returns-in-Reg

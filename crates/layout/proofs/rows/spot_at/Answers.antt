@@ -1,6 +1,5 @@
 use borrow.Author.Tests.{ne_eqb}
 use Rattle.layout.specs.MirrorRows.{spot_at}
-use borrow.Author.Rules.{rules}
 use Rattle.layout.proofs.rows.spot_at.Goals as goal
 
 pub returns-in-0 : goal.returns-in-0

@@ -1,4 +1,3 @@
-use borrow.Author.Rules.{rules}
 use Rattle.layout.proofs.rows.target_row.Goals as goal
 
 pub returns-in-ByReg : goal.returns-in-ByReg

@@ -1,5 +1,4 @@
 use Rattle.mnemonics.specs.MirrorTable.{name_at}
-use borrow.Author.Rules.{rules}
 use Rattle.mnemonics.proofs.instructions.instruction.Goals as goal
 
 pub returns-in-Nop : goal.returns-in-Nop

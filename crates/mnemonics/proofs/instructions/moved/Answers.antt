@@ -1,4 +1,3 @@
-use borrow.Author.Rules.{rules}
 use Rattle.mnemonics.proofs.instructions.moved.Goals as goal
 
 pub returns-in-Load : goal.returns-in-Load

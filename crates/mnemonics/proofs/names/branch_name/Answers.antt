@@ -2,7 +2,6 @@ use Rattle.mnemonics.specs.Names.{branch_name}
 use mathlib.Core.Path.{◌≡◌}
 use Prim.Native.Nat.{ℕ, ◌+◌, ◌-◌}
 use native.Mathlib.Omega.{arith}
-use borrow.Author.Rules.{rules}
 use Rattle.mnemonics.proofs.names.branch_name.Goals as goal
 
 three : (x : ℕ) → x + 3 - x ≡ 3

@@ -1,4 +1,3 @@
-use borrow.Author.Rules.{rules}
 use Rattle.mnemonics.specs.MirrorTable.{name_at}
 use Rattle.mnemonics.proofs.names.give_at.Goals as goal
 

@@ -1,4 +1,3 @@
-use borrow.Author.Rules.{rules}
 use Rattle.mnemonics.proofs.names.give_name.Goals as goal
 
 pub returns : goal.returns

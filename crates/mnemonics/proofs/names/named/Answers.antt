@@ -2,7 +2,6 @@ use Rattle.mnemonics.specs.MirrorTable.{name_at}
 use mathlib.Core.Path.{◌≡◌}
 use Prim.Native.Nat.{ℕ, ◌+◌, ◌-◌}
 use native.Mathlib.Omega.{arith}
-use borrow.Author.Rules.{rules}
 use Rattle.mnemonics.proofs.names.named.Goals as goal
 
 behind : (x n : ℕ) → x + n - x ≡ n

@@ -7,7 +7,6 @@ use Rattle.codes.specs.contracts.Op.{the_type}
 use Rattle.text.specs.Lines.{added}
 use Rattle.mnemonics.specs.Names.{mark_of, op_mark}
 use Rattle.mnemonics.specs.Parts.{Width, Op, Add, Sub, Cmp, Mov, Addx, Subx, Or, Xor, And}
-use borrow.Author.Rules.{rules}
 use borrow.Enum.Refused.{opened}
 use Rattle.mnemonics.proofs.names.op_mark.Goals as goal
 

@@ -1,4 +1,3 @@
-use borrow.Author.Rules.{rules}
 use Rattle.mnemonics.proofs.names.which.Goals as goal
 
 pub returns : goal.returns

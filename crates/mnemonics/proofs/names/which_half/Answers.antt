@@ -1,5 +1,4 @@
 use Rattle.mnemonics.specs.Names.{half_of}
-use borrow.Author.Rules.{rules}
 use Rattle.mnemonics.proofs.names.which_half.Goals as goal
 
 pub returns : goal.returns

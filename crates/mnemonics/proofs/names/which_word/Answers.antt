@@ -1,5 +1,4 @@
 use Rattle.mnemonics.specs.Names.{letter_of_word}
-use borrow.Author.Rules.{rules}
 use Rattle.mnemonics.proofs.names.which_word.Goals as goal
 
 pub returns : goal.returns

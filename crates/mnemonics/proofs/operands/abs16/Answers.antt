@@ -1,5 +1,4 @@
 use Rattle.mnemonics.specs.Operands.{extended}
-use borrow.Author.Rules.{rules}
 use Rattle.mnemonics.proofs.operands.abs16.Goals as goal
 
 pub returns : goal.returns

@@ -1,6 +1,5 @@
 use mathlib.Core.Path.{refl}
 use Rattle.text.specs.Lines.{added}
-use borrow.Author.Rules.{rules}
 use Rattle.mnemonics.proofs.operands.count.Goals as goal
 
 pub returns-in-Byte : goal.returns-in-Byte

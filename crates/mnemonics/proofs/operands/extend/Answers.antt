@@ -1,6 +1,5 @@
 use Rattle.mnemonics.specs.Operands.{extended}
 use borrow.Author.Tests.{lt-ltb, le-ltb}
-use borrow.Author.Rules.{rules}
 use Rattle.mnemonics.proofs.operands.extend.Goals as goal
 
 pub returns-then-a-lt32768 : goal.returns-then-a-lt32768

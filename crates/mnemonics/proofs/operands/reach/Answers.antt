@@ -1,4 +1,3 @@
-use borrow.Author.Rules.{rules}
 use Rattle.mnemonics.proofs.operands.reach.Goals as goal
 
 pub returns : goal.returns

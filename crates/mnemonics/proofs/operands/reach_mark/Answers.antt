@@ -1,5 +1,4 @@
 use Rattle.mnemonics.specs.MirrorTable.{name_at}
-use borrow.Author.Rules.{rules}
 use Rattle.mnemonics.proofs.operands.reach_mark.Goals as goal
 
 pub returns-in-Near : goal.returns-in-Near

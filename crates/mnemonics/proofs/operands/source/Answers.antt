@@ -1,4 +1,3 @@
-use borrow.Author.Rules.{rules}
 use Rattle.mnemonics.proofs.operands.source.Goals as goal
 
 pub returns-in-Reg : goal.returns-in-Reg

@@ -1,4 +1,3 @@
-use borrow.Author.Rules.{rules}
 use Rattle.mnemonics.proofs.operands.spot.Goals as goal
 
 pub returns-in-InPart : goal.returns-in-InPart

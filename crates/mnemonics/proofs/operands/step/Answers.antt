@@ -1,4 +1,3 @@
-use borrow.Author.Rules.{rules}
 use Rattle.mnemonics.proofs.operands.step.Goals as goal
 
 pub returns-in-Load : goal.returns-in-Load

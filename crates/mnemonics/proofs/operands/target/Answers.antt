@@ -1,4 +1,3 @@
-use borrow.Author.Rules.{rules}
 use Rattle.mnemonics.proofs.operands.target.Goals as goal
 
 pub returns-in-ByReg : goal.returns-in-ByReg

@@ -1,5 +1,4 @@
 use Rattle.wording.specs.Parts.{before_text}
-use borrow.Author.Rules.{rules}
 use Rattle.wording.proofs.parts.before.Goals as goal
 
 pub returns-then-plain : goal.returns-then-plain

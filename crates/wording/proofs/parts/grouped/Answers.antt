@@ -1,7 +1,6 @@
 use Rattle.wording.specs.Parts.{group_line}
 use Rattle.wording.proofs.Padding.{nothing}
 use borrow.Author.Tests.{eq-eqb, ne_eqb}
-use borrow.Author.Rules.{rules}
 use Rattle.wording.proofs.parts.grouped.Goals as goal
 
 pub returns-then-g-eq0 : goal.returns-then-g-eq0

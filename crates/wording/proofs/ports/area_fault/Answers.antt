@@ -1,6 +1,5 @@
 use Rattle.wording.specs.Ports.{area_fault}
 use borrow.Author.Tests.{eq-eqb, le-ltb, lt-ltb, ne_eqb}
-use borrow.Author.Rules.{rules}
 use Rattle.wording.proofs.ports.area_fault.Goals as goal
 
 pub returns-then-a-eq1 : goal.returns-then-a-eq1
