@@ -21,4 +21,4 @@ returns-then-number_at-gt255 c = record { call = rw (le-ltb _ _ c.if-answer-lt-S
 
 pub returns : goal.returns
 unfolding step_call
-returns c = let s = c.args in (rw (le-ltb _ _ c.if-answer-lt-STEP_ANSWER.false, le-ltb _ _ c.if-regs-lt-REGISTERS.false, ← c.number_at.ensures, le-ltb _ _ c.if-number_at-gt255.false) (c.step_lent.ensures.did ∙ stepped_is s.board.now s.rom.now s.ram.now s.regs.now s.answer.now), c.step_lent.ensures.1)
+returns c = let s = c.args in record { call = rw (le-ltb _ _ c.if-answer-lt-STEP_ANSWER.false, le-ltb _ _ c.if-regs-lt-REGISTERS.false, ← c.number_at.ensures, le-ltb _ _ c.if-number_at-gt255.false) (c.step_lent.ensures.did ∙ stepped_is s.board.now s.rom.now s.ram.now s.regs.now s.answer.now); sum = c.step_lent.ensures.sum; spares = c.step_lent.ensures.spares }

@@ -2,19 +2,19 @@ use borrow.Author.Rules.{rules}
 use Rattle.runlines.proofs.routines.ran_out.Goals as goal
 
 pub returns-in-AtStop : goal.returns-in-AtStop
-returns-in-AtStop c = rw c.in-AtStop.is (rw c.in-AtStop.is at c.out.ensures)
+returns-in-AtStop c = rw c.in-AtStop.is c.out.ensures
 
 pub returns-in-Spent : goal.returns-in-Spent
-returns-in-Spent c = rw c.in-Spent.is (rw c.in-Spent.is at c.out-in-Spent.ensures)
+returns-in-Spent c = rw c.in-Spent.is c.out-in-Spent.ensures
 
 pub returns-in-Halted : goal.returns-in-Halted
-returns-in-Halted c = rw c.in-Halted.is (rw c.in-Halted.is at c.stopped.ensures)
+returns-in-Halted c = rw c.in-Halted.is c.stopped.ensures
 
 pub returns-in-Returned : goal.returns-in-Returned
-returns-in-Returned c = rw c.in-Returned.is (rw c.in-Returned.is at c.out-in-Returned.ensures)
+returns-in-Returned c = rw c.in-Returned.is c.out-in-Returned.ensures
 
 pub returns-in-Ninth : goal.returns-in-Ninth
-returns-in-Ninth c = rw c.in-Ninth.is (rw c.in-Ninth.is at c.out-in-Ninth.ensures)
+returns-in-Ninth c = rw c.in-Ninth.is c.out-in-Ninth.ensures
 
 pub returns-in-Elsewhere : goal.returns-in-Elsewhere
-returns-in-Elsewhere c = rw c.in-Elsewhere.is (rw c.in-Elsewhere.is at c.out-in-Elsewhere.ensures)
+returns-in-Elsewhere c = rw c.in-Elsewhere.is c.out-in-Elsewhere.ensures
