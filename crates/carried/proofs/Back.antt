@@ -1,6 +1,6 @@
 -- What is written of a replay is read back as it was. Assumes nothing.
-use Prim.Native.Nat.{ℕ, ◌+◌, ◌*◌, ◌/◌, ◌%◌, ◌^◌, ◌<◌}
-use mathlib.Core.Path.{◌≡◌, refl, sym, ◌∙◌, ap}
+use Prim.Native.Nat.{ℕ, ◌/◌, ◌%◌, ◌^◌, ◌<◌}
+use mathlib.Core.Path.{◌≡◌, refl, ap}
 use mathlib.Core.List.{List, [], ◌∷◌, ◌++◌}
 use native.Mathlib.Nat.{mod-eq_of_lt}
 use native.Mathlib.Omega.{arith}
@@ -8,20 +8,17 @@ use lib.ListN.{length, get_or}
 use Rattle.refusal.specs.Refusals.{number_of, place_of, group_of}
 use Rattle.refusal.specs.declared.Refusal.{Refusal}
 use Rattle.refusal.specs.declared.Refusal.TheVariants.{BadBoard, FetchOutside, UnknownCode, CutShort, ReadOutside, WriteOutside, NoAdjustRow, BadEntry, NotFollowed, NotUpward, NotInstruction, BudgetTooLarge, LentTooShort, DivideFails, LeftOut, TooDeep, BadVersion, BadLength, Unfinished, ReplayEnded, TooLong}
-use Rattle.registers.specs.Condition.{condition_of, byte_of}
 use Rattle.registers.specs.declared.Registers.{Registers}
 use Rattle.registers.proofs.Bytes.{condition_back, byte_small}
 use Rattle.layout.specs.Registers.{registers_of, ten_of}
 use Rattle.replay.specs.Replay.{standing}
-use Rattle.replay.specs.declared.Part.{Part}
-use Rattle.replay.specs.declared.Field.{Field}
 use Rattle.replay.specs.declared.Field.TheVariants.{OfPc, OfCondition, OfStates}
 use Rattle.replay.specs.declared.Report.{Report}
 use Rattle.replay.specs.declared.Report.TheVariants.{Agreed, Differs, Halted}
 use Rattle.replay.specs.declared.Stage.{Stage}
 use Rattle.replay.specs.declared.Stage.TheVariants.{Version, Records, Told, Closed}
 use Rattle.replay.specs.declared.Standing.{Standing}
-use Rattle.carried.specs.Carried.{field_at, refusal_at, report_at, stage_at, part_of, report_of, standing_of, report_numbers, stage_numbers, numbers_of}
+use Rattle.carried.specs.Carried.{refusal_at, stage_at, part_of, report_of, standing_of, report_numbers, stage_numbers, numbers_of}
 
 -- how many numbers
 report_length : (t : Report) → length (report_numbers t) ≡ 5

@@ -22,7 +22,7 @@ use Rattle.memory.proofs.Laws.{good}
 use Rattle.memory.proofs.Carried.{carries}
 use Rattle.paths.specs.declared.Flow.{Flow}
 use Rattle.paths.specs.declared.Reckoned.{Reckoned}
-use Rattle.paths.specs.Paths.{IsPlace, Forbidden, Meets, Lowest, IsFigure, Over}
+use Rattle.paths.specs.Paths.{IsPlace, Forbidden, Meets, IsFigure, Over}
 use Rattle.paths.specs.Levels.{Held, totals, bars, HeldIs}
 use Rattle.paths.proofs.Laws.{le_or, Listing, forbidden_one, largest_one, lowest_one, figure_over, row_one, meets_forbidden, meets_place, meets_in}
 use Rattle.paths.proofs.Rows.{why_is}

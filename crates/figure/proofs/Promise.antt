@@ -3,8 +3,6 @@ use mathlib.Core.Path.{◌≡◌, sym, subst, ◌∙◌, ap}
 use mathlib.Core.List.{List}
 use Prim.Native.Nat.{ℕ}
 use native.Mathlib.Omega.{arith}
-use Rattle.refusal.specs.declared.Refusal.{Refusal}
-use Rattle.refusal.specs.declared.Outcome.TheVariants.{Done, Refused}
 use Rattle.codes.specs.Exact.{Bytes}
 use Rattle.site.specs.declared.Site.{Site}
 use Rattle.memory.specs.declared.Board.{Board}
@@ -16,7 +14,7 @@ use Rattle.paths.specs.Runs.{Ending, Run}
 use Rattle.paths.proofs.Once.{OneStep, keeping_one, run_one}
 use Rattle.figure.specs.declared.Verdict.{Verdict}
 use Rattle.figure.specs.Answer.{Figured, RefusedExactly}
-use Rattle.step.specs.Processor.{State, Calling, processor}
+use Rattle.step.specs.Processor.{Calling, processor}
 use Rattle.figure.specs.Bound.{RunsKept}
 use Rattle.figure.proofs.Answered.{good_place, exactly}
 use Rattle.figure.proofs.Kept.{kept}

@@ -1,32 +1,26 @@
 -- A step of the processor goes where the paths of its listing go, by the few cases of where PC can go; and it has one answer. Assumes nothing.
 use mathlib.Core.Path.{◌≡◌, refl, sym, subst, ◌∙◌, ap}
-use mathlib.Core.Logic.{◌⊎◌, inl, inr, ⊎_elim}
-use mathlib.Core.Bool.{Bool, true, false, cond, ◌&&◌, xor}
+use mathlib.Core.Logic.{◌⊎◌, inl, inr}
+use mathlib.Core.Bool.{Bool, true, false, cond, xor}
 use mathlib.Core.List.{List}
-use Prim.Native.Nat.{ℕ, ◌+◌, ◌*◌, ◌/◌, ◌%◌, ◌^◌, ◌≤◌, ◌<◌}
+use Prim.Native.Nat.{ℕ, ◌*◌, ◌/◌, ◌%◌, ◌^◌, ◌≤◌, ◌<◌}
 use native.Mathlib.Nat.{le_refl}
 use native.Mathlib.Omega.{arith}
-use lib.Dec.{eqb, ltb, leb}
+use lib.Dec.{eqb}
 use lib.ListN.{length, drop}
 use borrow.Author.Tests.{eq-eqb, eqb-true, lt-ltb, ltb-true, ltb-false, le-leb, lt-leb}
-use Rattle.refusal.specs.Refusals.{number_of}
 use Rattle.refusal.specs.declared.Refusal.{Refusal}
 use Rattle.refusal.specs.declared.Refusal.TheVariants.{FetchOutside, NotFollowed}
-use Rattle.refusal.specs.declared.Outcome.TheVariants.{Done, Refused}
+use Rattle.refusal.specs.declared.Outcome.TheVariants.{Done}
 use Rattle.codes.specs.States.{goes_of}
 use Rattle.codes.specs.Exact.{Bytes}
 use Rattle.codes.specs.declared.Instruction.{Instruction}
 use Rattle.codes.specs.declared.Goes.{Goes}
 use Rattle.codes.specs.declared.Goes.TheVariants.{Onward, Branches, Jumps, CallsNear, Calls, Returns}
-use Rattle.codes.specs.declared.Target.{Target}
 use Rattle.codes.specs.declared.Target.TheVariants.{ByReg, Direct, Vector}
-use Rattle.codes.specs.declared.Reach.{Reach}
-use Rattle.codes.specs.declared.Decoded.{Decoded}
-use Rattle.codes.specs.declared.Decoded.TheVariants.{Code, NoCode}
+use Rattle.codes.specs.declared.Decoded.TheVariants.{Code}
 use Rattle.codes.proofs.Laws.{bytes_drop}
-use Rattle.decoder.specs.MirrorDecode.{decode_of}
 use Rattle.decoder.proofs.Laws.{code_read}
-use Rattle.registers.specs.Parts.{pc_of}
 use Rattle.flow.specs.Targets.{next_of, target_of}
 use Rattle.flow.proofs.Signed.{target_even, target_in}
 use Rattle.registers.specs.declared.Condition.{Condition}
@@ -37,18 +31,15 @@ use Rattle.timing.specs.Made.{most_of}
 use Rattle.timing.proofs.Printed.{most_printed}
 use Rattle.memory.specs.Board.{good_board}
 use Rattle.memory.specs.declared.Board.{Board}
-use Rattle.memory.specs.declared.Got.{Got}
-use Rattle.memory.specs.declared.Got.TheVariants.{Value, NotRead}
+use Rattle.memory.specs.declared.Got.TheVariants.{Value}
 use Rattle.moves.specs.Made.{states_at}
 use Rattle.moves.proofs.States.{never_more, printed}
 use Rattle.step.specs.Follow.{even_condition, holds_of, aim_of, follow_of}
-use Rattle.step.specs.Step.{After, after, answered, stays, good_pc, fetch_of, step_of}
+use Rattle.step.specs.Step.{After, after, answered, good_pc, fetch_of, step_of}
 use Rattle.step.proofs.Laws as Laws
 use Rattle.step.proofs.Laws.{Comes, outside, no_code, completes, comes, step_is}
-use Rattle.paths.specs.declared.Flow.{Flow}
-use Rattle.paths.specs.declared.Flow.TheVariants.{Next, Jump, Either, Call, Ends, Stop}
+use Rattle.paths.specs.declared.Flow.TheVariants.{Next, Jump, Either, Stop}
 use Rattle.paths.specs.Paths.{IsPlace, Leads, Enters, count_of}
-use Rattle.paths.proofs.Laws.{le_or}
 use Rattle.paths.proofs.Kept.{Stepped, back_home, onward, entered, by_data}
 use Rattle.listing.specs.Listing.{branch_flow, jump_flow, call_flow, goes_flow, found_flow, decoded_at, flow_at}
 use Rattle.step.specs.Processor.{State, Calling, processor}

@@ -4,7 +4,7 @@ use mathlib.Core.Path.{◌≡◌, refl, sym, subst, ◌∙◌}
 use mathlib.Core.Logic.{◌⊎◌, inl, inr, ⊎_elim}
 use mathlib.Core.List.{List}
 use mathlib.Core.Bool.{true}
-use Prim.Native.Nat.{ℕ, ◌%◌, ◌≤◌, ◌<◌}
+use Prim.Native.Nat.{ℕ, ◌≤◌, ◌<◌}
 use native.Mathlib.Omega.{arith}
 use lib.ListN.{length}
 use borrow.Author.Tests.{eq-eqb, ne_eqb, lt-ltb, le-leb}
@@ -17,7 +17,7 @@ use Rattle.paths.specs.declared.Flow.{Flow}
 use Rattle.paths.specs.declared.Flow.TheVariants.{Next, Jump, Either, Call, Ends, Stop}
 use Rattle.paths.specs.declared.WayOn.{WayOn}
 use Rattle.paths.specs.declared.WayOn.TheVariants.{NoWay}
-use Rattle.paths.specs.Paths.{IsPlace, Leads, Forbidden, stop, back, Open, Lowest, IsFigure, Over, Row, figure, over, refused, RowsFrom, Follows, NextOnTie}
+use Rattle.paths.specs.Paths.{IsPlace, Leads, Forbidden, stop, back, Open, Lowest, IsFigure, Row, figure, over, refused, RowsFrom, Follows, NextOnTie}
 use Rattle.paths.specs.MirrorRows.{row_of, onward_of}
 use Rattle.paths.proofs.Laws.{le_or, Listing, row_one, forbidden_one, meets_forbidden, meets_place, meets_in, clear_open, clear_in}
 use Rattle.paths.proofs.Rows.{own_is, own_over, row_at}

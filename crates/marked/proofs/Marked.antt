@@ -2,7 +2,7 @@
 use mathlib.Core.Path.{refl}
 use mathlib.Core.Bool.{xor}
 use Rattle.arith.specs.Widths.{signed_of, fits_in, moved_of}
-use Rattle.arith.specs.Sums.{add_of, sub_of, neg_of, inc_of, dec_of}
+use Rattle.arith.specs.Sums.{add_of, sub_of}
 use Rattle.arith.specs.Decimal.{find_row, adjust_of}
 use Rattle.registers.specs.Parts.{part_of, insert_of, with_part}
 use Rattle.memory.specs.Board.{good_board}

@@ -1,6 +1,5 @@
 -- Document 01, "Marked examples": a row for each, and what it says of the product's definitions. `marked` of proofs/Marked.antt proves all of them together.
 use Rattle.std.specs.Prelude.{ℕ, ◌≡◌, List, [], ◌∷◌}
-use Rattle.refusal.specs.declared.Refusal.{Refusal}
 use Rattle.refusal.specs.declared.Refusal.TheVariants.{FetchOutside, NoAdjustRow, NotUpward}
 use Rattle.refusal.specs.declared.Outcome.{Outcome}
 use Rattle.refusal.specs.declared.Outcome.TheVariants.{Done, Refused}

@@ -11,7 +11,7 @@ use Rattle.replay.specs.declared.Stage.{Stage}
 use Rattle.replay.specs.declared.Stage.TheVariants.{Version, Records, Told, Closed}
 use Rattle.replay.specs.declared.Standing.{Standing}
 use Rattle.replay.specs.declared.Said.TheVariants.{Final}
-use Rattle.replay.specs.Replay.{Moment, moment, staged, byte_taken, ended, end_of, ended_of, closed, fed, begun, replay_of}
+use Rattle.replay.specs.Replay.{Moment, moment, byte_taken, ended, end_of, ended_of, closed, fed, begun, replay_of}
 use Rattle.replay.specs.Cuts.{Arrived, arrived, delivered, took, stage_arrived, deliver_of, deliveries, joined}
 use Rattle.replay.specs.MirrorReplay.{over_of}
 use Rattle.replay.proofs.Bytes.{no_true, told_stays}

@@ -1,5 +1,5 @@
 -- A replay is the repeated step, and each record that agreed describes the moment before its step. Assumes nothing.
-use Prim.Native.Nat.{ℕ, zero, suc, ◌+◌, ◌*◌, ◌%◌, ◌^◌, ◌≤◌, ◌<◌}
+use Prim.Native.Nat.{ℕ, suc, ◌+◌, ◌*◌, ◌%◌, ◌^◌, ◌≤◌, ◌<◌}
 use mathlib.Core.Path.{◌≡◌, refl, sym, ◌∙◌, ap, subst}
 use mathlib.Core.Bool.{Bool, true, false, cond, ◌&&◌}
 use mathlib.Core.List.{List, [], ◌∷◌}
@@ -7,7 +7,6 @@ use native.Mathlib.Omega.{arith}
 use borrow.Author.Tests.{eqb-true, le-leb, ltb-true, ltb-false, ne_eqb}
 use lib.Dec.{eqb, ltb, leb}
 use lib.ListN.{length, get_or, take, drop}
-use Rattle.refusal.specs.declared.Refusal.{Refusal}
 use Rattle.refusal.specs.declared.Refusal.TheVariants.{BadBoard, BadVersion, BudgetTooLarge, BadLength}
 use Rattle.refusal.specs.declared.Outcome.{Outcome}
 use Rattle.refusal.specs.declared.Outcome.TheVariants.{Done, Refused}
@@ -20,9 +19,9 @@ use Rattle.step.specs.Processor.{State, processor}
 use Rattle.step.proofs.Laws.{step_refused, step_states}
 use Rattle.replay.specs.declared.Part.{Part}
 use Rattle.replay.specs.declared.Report.{Report}
-use Rattle.replay.specs.declared.Report.TheVariants.{Differs, Halted}
+use Rattle.replay.specs.declared.Report.TheVariants.{Halted}
 use Rattle.replay.specs.declared.Stage.{Stage}
-use Rattle.replay.specs.declared.Stage.TheVariants.{Version, Records, Told, Closed}
+use Rattle.replay.specs.declared.Stage.TheVariants.{Version, Records, Told}
 use Rattle.replay.specs.declared.Standing.{Standing}
 use Rattle.replay.specs.Replay as d
 use Rattle.replay.specs.Replay.{Moment, moment, nothing, longer, grown, standing, staged, begins, went, taken, compared, held, first_of, stage_taken, fed, begun, ended_of, replay_of}

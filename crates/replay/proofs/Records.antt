@@ -1,10 +1,9 @@
 -- Eleven bytes of a recording are one record. Assumes nothing.
-use Prim.Native.Nat.{ℕ, suc, ◌+◌, ◌*◌, ◌%◌, ◌≤◌, ◌<◌}
-use mathlib.Core.Path.{◌≡◌, refl, sym, ◌∙◌, ap}
-use mathlib.Core.Bool.{Bool, true, false, cond, ◌&&◌}
-use mathlib.Core.List.{List, [], ◌∷◌}
-use native.Mathlib.Omega.{arith}
-use lib.Dec.{eqb, leb}
+use Prim.Native.Nat.{ℕ, ◌<◌}
+use mathlib.Core.Path.{◌≡◌, refl, ◌∙◌, ap}
+use mathlib.Core.Bool.{Bool, true, false, cond}
+use mathlib.Core.List.{List, ◌∷◌}
+use lib.Dec.{eqb}
 use borrow.Author.Tests.{lt-leb}
 use Rattle.refusal.specs.declared.Refusal.TheVariants.{BadLength}
 use Rattle.refusal.specs.declared.Outcome.{Outcome}
@@ -14,9 +13,9 @@ use Rattle.memory.specs.declared.Board.{Board}
 use Rattle.replay.specs.declared.Part.{Part}
 use Rattle.replay.specs.declared.Report.TheVariants.{Halted}
 use Rattle.replay.specs.declared.Stage.{Stage}
-use Rattle.replay.specs.declared.Stage.TheVariants.{Version, Records, Told, Closed}
+use Rattle.replay.specs.declared.Stage.TheVariants.{Records, Told}
 use Rattle.replay.specs.declared.Standing.{Standing}
-use Rattle.replay.specs.Replay.{Moment, moment, part, nothing, longer, grown, standing, staged, begins, went, taken, compared, held, stage_taken, fed}
+use Rattle.replay.specs.Replay.{Moment, moment, part, nothing, longer, grown, staged, begins, went, taken, compared, held, stage_taken, fed}
 use Rattle.replay.proofs.Bytes.{told_stays}
 
 -- what is compared, and the step after it, don't look at the stage

@@ -1,5 +1,5 @@
 -- Recordings that arrive in cuts (document 02, W8): deliveries are taken in turn, the replay carried in a value and the memories untouched between.
-use Rattle.std.specs.Prelude.{ℕ, cond, List, [], ◌∷◌, ◌++◌}
+use Rattle.std.specs.Prelude.{ℕ, List, [], ◌∷◌, ◌++◌}
 use Rattle.refusal.specs.declared.Refusal.TheVariants.{ReplayEnded}
 use Rattle.memory.specs.declared.Board.{Board}
 use Rattle.replay.specs.declared.Report.TheVariants.{Halted}

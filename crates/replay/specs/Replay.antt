@@ -1,8 +1,7 @@
 -- Replay against a recording (document 02, W7). It is taken byte by byte, so that where it is cut can't matter (W8).
 -- A recording: version byte 1, then records of eleven bytes: a two-byte length, 9; four bytes PC; the condition byte; four bytes of states since the start;
 -- upper byte first. A record describes the moment before its instruction.
-use Rattle.std.specs.Prelude.{ℕ, ◌+◌, ◌*◌, ◌%◌, ◌^◌, Bool, true, false, cond, ◌&&◌, List, [], ◌∷◌, eqb, ltb, leb, length}
-use Rattle.refusal.specs.declared.Refusal.{Refusal}
+use Rattle.std.specs.Prelude.{ℕ, ◌+◌, ◌*◌, ◌%◌, ◌^◌, cond, ◌&&◌, List, [], ◌∷◌, eqb, ltb, leb}
 use Rattle.refusal.specs.declared.Refusal.TheVariants.{BadBoard, BudgetTooLarge, BadVersion, BadLength, Unfinished, ReplayEnded}
 use Rattle.refusal.specs.declared.Outcome.{Outcome}
 use Rattle.refusal.specs.declared.Outcome.TheVariants.{Done, Refused}

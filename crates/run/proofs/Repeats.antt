@@ -1,22 +1,20 @@
 -- A run on a right board is the repeated step: its steps and states are the counts of `Steps`. Assumes nothing.
 use Prim.Native.Nat.{ℕ, zero, suc, ◌+◌, ◌≤◌, ◌<◌}
-use mathlib.Core.Path.{◌≡◌, refl, sym, ◌∙◌, ap, subst, subst⁻¹}
-use mathlib.Core.Bool.{Bool, true, false, ◌&&◌}
+use mathlib.Core.Path.{◌≡◌, refl, ap}
+use mathlib.Core.Bool.{Bool, true, false}
 use mathlib.Core.List.{List}
 use native.Mathlib.Omega.{arith}
 use borrow.Author.Tests.{eqb-true, eqb-false, le-ltb}
 use lib.Dec.{eqb}
-use lib.ListN.{length}
-use Rattle.refusal.specs.declared.Refusal.{Refusal}
 use Rattle.refusal.specs.declared.Outcome.{Outcome}
 use Rattle.refusal.specs.declared.Outcome.TheVariants.{Done, Refused}
 use Rattle.registers.specs.declared.Registers.{Registers}
 use Rattle.memory.specs.declared.Board.{Board}
 use Rattle.machine.specs.Machine.{Steps, none, more}
 use Rattle.step.specs.Step.{After, after, answered, good_start, step_of}
-use Rattle.step.specs.Processor.{State, processor}
+use Rattle.step.specs.Processor.{processor}
 use Rattle.step.proofs.Laws.{step_refused}
-use Rattle.run.specs.Run.{Ran, ran, told, onward, run_from, run_of}
+use Rattle.run.specs.Run.{Ran, ran, told, run_from, run_of}
 use Rattle.run.specs.Repeated.{state, Away, EndedBy, Repeated}
 use Rattle.run.specs.declared.Ending.{Ending}
 use Rattle.run.specs.declared.Ending.TheVariants.{AtStop, Spent, Halted}

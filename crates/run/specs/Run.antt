@@ -1,5 +1,5 @@
 -- A run: the step repeated (document 01, "The board and a run").
-use Rattle.std.specs.Prelude.{ℕ, zero, suc, ◌+◌, Bool, true, false, cond, List, ltb, eqb}
+use Rattle.std.specs.Prelude.{ℕ, zero, suc, ◌+◌, cond, List, ltb, eqb}
 use Rattle.refusal.specs.declared.Refusal.{Refusal}
 use Rattle.refusal.specs.declared.Refusal.TheVariants.{BadBoard, BudgetTooLarge}
 use Rattle.refusal.specs.declared.Outcome.{Outcome}

@@ -7,7 +7,7 @@ use mathlib.Core.Bool.{Bool, true, false, cond, ◌&&◌, ◌||◌}
 use mathlib.Core.List.{List, [], ◌∷◌, ◌++◌, append-nil}
 use mathlib.Core.Logic.{◌⊎◌, ⊎_elim}
 use native.Mathlib.Omega.{arith}
-use lib.Dec.{leb, ltb, eqb}
+use lib.Dec.{ltb, eqb}
 use lib.ListN.{length, drop}
 use borrow.Author.Tests.{eqb-true, leb-true, le-leb, lt-ltb}
 use Rattle.refusal.specs.Refusals.{number_of}
@@ -23,7 +23,6 @@ use Rattle.products.specs.declared.Half.{Half}
 use Rattle.products.specs.declared.Division.{Division}
 use Rattle.products.specs.declared.Division.TheVariants.{Divided, Fails}
 use Rattle.registers.specs.declared.Registers.{Registers}
-use Rattle.registers.specs.Parts.{with_pc}
 use Rattle.memory.specs.Access.{address, even_address, second_address, inside, byte_at, word_at, read_part, joined, read_long, read_of, room, both, written, write_byte, write_word, write_long, write_of}
 use Rattle.memory.specs.Reach.{reaches}
 use Rattle.memory.specs.declared.Board.{Board}
@@ -43,22 +42,16 @@ use Rattle.moves.specs.Moves.{Stepped, stepped, address_of, step_over, loaded_of
 use Rattle.moves.specs.Made.{made_of, states_at}
 use Rattle.flow.specs.Targets.{next_of}
 use Rattle.decoder.specs.MirrorDecode.{decode_of}
-use Rattle.codes.specs.Cycles.{Touch, touch, touches_of}
 use Rattle.codes.specs.States.{goes_of}
-use Rattle.codes.specs.declared.Dir.{Dir}
 use Rattle.codes.specs.declared.Dir.TheVariants.{Load, Store}
-use Rattle.codes.specs.declared.Place.{Place}
 use Rattle.codes.specs.declared.Take.{Take}
 use Rattle.codes.specs.declared.Give.{Give}
 use Rattle.codes.specs.declared.Index.{Index}
-use Rattle.codes.specs.declared.Spot.{Spot}
 use Rattle.codes.specs.declared.Spot.TheVariants.{InPart, AtEr, AtAbs}
-use Rattle.codes.specs.declared.Target.{Target}
 use Rattle.codes.specs.declared.Target.TheVariants.{ByReg, Direct, Vector}
 use Rattle.codes.specs.declared.Instruction.{Instruction}
 use Rattle.codes.specs.declared.Instruction.TheVariants.{Nop, Stc, LdcReg, Ccr, Alu, IncDec, AddsSubs, Decimal, Shift, Unary, Multiply, Divide, Takes, Gives, Move, Bcc, Jmp, Bsr, Jsr, Rts}
-use Rattle.codes.specs.declared.Decoded.{Decoded}
-use Rattle.codes.specs.declared.Decoded.TheVariants.{Code, NoCode}
+use Rattle.codes.specs.declared.Decoded.TheVariants.{Code}
 use Rattle.step.specs.declared.StepAnswer.{StepAnswer}
 use Rattle.step.specs.Follow.{aim_of, follow_of}
 use Rattle.step.specs.Step.{transfer_of, effect_of, After, after, answered, stays, finish_of, carry_of, obey_of, act_of, fetch_of, good_start, step_of}

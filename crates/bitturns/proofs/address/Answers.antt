@@ -1,6 +1,5 @@
 use borrow.Author.Tests.{lt-ltb, le-ltb}
 use Rattle.bitturns.specs.MirrorBitturns.{address_in}
-use borrow.Author.Rules.{rules}
 use Rattle.bitturns.proofs.address.Goals as goal
 
 pub returns-then-s-lt256 : goal.returns-then-s-lt256

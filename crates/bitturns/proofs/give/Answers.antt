@@ -1,7 +1,6 @@
 use mathlib.Core.Path.{sym}
 use Rattle.entry.specs.Entry.{given_in}
 use Rattle.bitturns.proofs.Laws.{give_turns}
-use borrow.Author.Rules.{rules}
 use Rattle.bitturns.proofs.give.Goals as goal
 
 pub returns : goal.returns

@@ -2,7 +2,6 @@ use mathlib.Core.Path.{sym, ◌∙◌}
 use Rattle.entry.specs.Entry.{given_at}
 use Rattle.turns.proofs.Laws.{deed_done}
 use Rattle.bitturns.proofs.Laws.{give_ends, given_trail}
-use borrow.Author.Rules.{rules}
 use Rattle.bitturns.proofs.give_at.Goals as goal
 
 pub returns : goal.returns

@@ -1,7 +1,6 @@
 use mathlib.Core.Path.{sym}
 use Rattle.entry.specs.Entry.{taken_in}
 use Rattle.bitturns.proofs.Laws.{take_turns}
-use borrow.Author.Rules.{rules}
 use Rattle.bitturns.proofs.take.Goals as goal
 
 pub returns : goal.returns

@@ -2,7 +2,6 @@ use mathlib.Core.Path.{sym, ◌∙◌}
 use Rattle.entry.specs.Entry.{taken_at}
 use Rattle.turns.proofs.Laws.{deed_done}
 use Rattle.bitturns.proofs.Laws.{take_ends, taken_trail}
-use borrow.Author.Rules.{rules}
 use Rattle.bitturns.proofs.take_at.Goals as goal
 
 pub returns : goal.returns

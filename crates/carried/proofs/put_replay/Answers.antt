@@ -1,12 +1,6 @@
 use Rattle.layout.specs.Registers.{ten_of}
 use mathlib.Core.Path.{◌∙◌}
 use Rattle.carried.specs.Carried.{numbers_of}
-use borrow.Author.Rules.{rules}
-use Rattle.carried.proofs.put_replay.Reads as reads
-use Rattle.carried.proofs.put_replay.Lts as lts
-use Rattle.carried.proofs.put_stage.Reads as put-stage-reads
-use Rattle.layout.proofs.lent.put.Reads as put_reads
-use Rattle.layout.proofs.lent.put_registers.Reads as put-registers-reads
 use Rattle.carried.proofs.put_replay.Goals as goal
 
 -- src/lib.rt:184:1

@@ -1,13 +1,5 @@
 use mathlib.Core.Path.{◌∙◌}
 use Rattle.carried.specs.Carried.{report_numbers}
-use borrow.Author.Rules.{rules}
-use Rattle.carried.proofs.put_report.Reads as reads
-use Rattle.carried.proofs.put_report.Lts as lts
-use Rattle.carried.proofs.put_told.Reads as put-told-reads
-use Rattle.refusal.proofs.Refusal.group.Reads as group-Reads
-use Rattle.refusal.proofs.Refusal.number.Reads as Refusal-number-reads
-use Rattle.refusal.proofs.Refusal.place.Reads as place-reads
-use Rattle.replay.proofs.Field.number.Reads as Field-number-reads
 use Rattle.carried.proofs.put_report.Goals as goal
 
 -- src/lib.rt:139:1

@@ -1,12 +1,5 @@
 use mathlib.Core.Path.{◌∙◌}
 use Rattle.carried.specs.Carried.{stage_numbers}
-use borrow.Author.Rules.{rules}
-use Rattle.carried.proofs.put_stage.Reads as reads
-use Rattle.carried.proofs.put_stage.Lts as lts
-use Rattle.carried.proofs.none.Reads as none_reads
-use Rattle.carried.proofs.put_read.Reads as put-read-reads
-use Rattle.carried.proofs.put_report.Reads as put-report-reads
-use Rattle.carried.proofs.put_told.Reads as put-told-reads
 use Rattle.carried.proofs.put_stage.Goals as goal
 
 -- src/lib.rt:161:1

@@ -1,4 +1,3 @@
-use borrow.Author.Rules.{rules}
 use Rattle.carried.proofs.put_told.Goals as goal
 
 pub returns : goal.returns

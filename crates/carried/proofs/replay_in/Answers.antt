@@ -1,5 +1,4 @@
 use Rattle.carried.specs.Carried.{standing_of}
-use borrow.Author.Rules.{rules}
 use Rattle.carried.proofs.replay_in.Goals as goal
 
 pub returns : goal.returns

@@ -1,5 +1,4 @@
 use Rattle.carried.specs.Carried.{report_of}
-use borrow.Author.Rules.{rules}
 use Rattle.carried.proofs.report_in.Goals as goal
 
 pub returns : goal.returns

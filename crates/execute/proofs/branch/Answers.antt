@@ -1,4 +1,3 @@
-use borrow.Author.Rules.{rules}
 use Rattle.execute.proofs.branch.Goals as goal
 
 pub returns-then-taken : goal.returns-then-taken

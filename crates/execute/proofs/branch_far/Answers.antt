@@ -3,7 +3,6 @@ use Rattle.entry.specs.Entry.{branch_far}
 use Rattle.step.specs.Follow.{follow_of}
 use Rattle.step.specs.Step.{effect_of}
 use Rattle.turns.proofs.Laws.{done_acts}
-use borrow.Author.Rules.{rules}
 use Rattle.execute.proofs.branch_far.Goals as goal
 
 pub returns : goal.returns

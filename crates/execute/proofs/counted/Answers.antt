@@ -1,5 +1,4 @@
 use Rattle.entry.specs.Entry.{counted}
-use borrow.Author.Rules.{rules}
 use Rattle.execute.proofs.counted.Goals as goal
 
 pub returns : goal.returns

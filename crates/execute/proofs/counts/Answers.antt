@@ -5,7 +5,6 @@ use Rattle.codes.specs.declared.By.TheVariants.{One, Two, Four}
 use Rattle.entry.specs.Entry.{counts}
 use Rattle.operate.specs.Operate.{inc_dec_of, adds_subs_of}
 use Rattle.execute.proofs.Laws.{inc_dec_obeys, adds_subs_obeys}
-use borrow.Author.Rules.{rules}
 use Rattle.execute.proofs.counts.Goals as goal
 
 pub returns-in-0 : goal.returns-in-0

@@ -1,5 +1,4 @@
 use borrow.Author.Tests.{ne_eqb}
-use borrow.Author.Rules.{rules}
 use Rattle.execute.proofs.imm_byte_op.Goals as goal
 
 pub returns-in-0 : goal.returns-in-0

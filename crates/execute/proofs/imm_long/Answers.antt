@@ -1,7 +1,6 @@
 use Rattle.arith.specs.declared.Width.TheVariants.{Long}
 use Rattle.entry.specs.Entry.{imm_long}
 use Rattle.execute.proofs.Laws.{imm_obeys}
-use borrow.Author.Rules.{rules}
 use Rattle.execute.proofs.imm_long.Goals as goal
 
 pub returns : goal.returns

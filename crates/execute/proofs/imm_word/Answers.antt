@@ -1,7 +1,6 @@
 use Rattle.arith.specs.declared.Width.TheVariants.{Word}
 use Rattle.entry.specs.Entry.{imm_word}
 use Rattle.execute.proofs.Laws.{imm_obeys}
-use borrow.Author.Rules.{rules}
 use Rattle.execute.proofs.imm_word.Goals as goal
 
 pub returns : goal.returns

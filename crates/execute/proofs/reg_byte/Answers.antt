@@ -1,7 +1,6 @@
 use Rattle.arith.specs.declared.Width.TheVariants.{Byte}
 use Rattle.entry.specs.Entry.{reg_short}
 use Rattle.execute.proofs.Laws.{reg_obeys}
-use borrow.Author.Rules.{rules}
 use Rattle.execute.proofs.reg_byte.Goals as goal
 
 pub returns : goal.returns

@@ -1,5 +1,4 @@
 use Rattle.entry.specs.Entry.{reg_long}
-use borrow.Author.Rules.{rules}
 use Rattle.execute.proofs.reg_long.Goals as goal
 
 pub returns : goal.returns

@@ -2,7 +2,6 @@ use borrow.Author.Tests.{ne_eqb}
 use Rattle.arith.specs.declared.Width.TheVariants.{Long}
 use Rattle.codes.specs.declared.Op.TheVariants.{Add, Sub, Cmp, Mov, Addx, Subx, Or, Xor, And}
 use Rattle.execute.proofs.Laws.{past_five, reg_obeys}
-use borrow.Author.Rules.{rules}
 use Rattle.execute.proofs.reg_long_op.Goals as goal
 
 pub returns-in-0 : goal.returns-in-0

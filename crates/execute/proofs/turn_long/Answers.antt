@@ -4,7 +4,6 @@ use Rattle.codes.specs.declared.Turn.TheVariants.{Shll, Shlr, Rotxl, Rotxr, Shal
 use Rattle.codes.specs.declared.Single.TheVariants.{Not, Neg}
 use Rattle.entry.specs.Entry.{long_turns}
 use Rattle.execute.proofs.Laws.{shift_obeys, unary_obeys}
-use borrow.Author.Rules.{rules}
 use Rattle.execute.proofs.turn_long.Goals as goal
 
 pub returns-in-0 : goal.returns-in-0

@@ -3,7 +3,6 @@ use Rattle.arith.specs.declared.Width.TheVariants.{Byte, Word}
 use Rattle.codes.specs.declared.Turn.TheVariants.{Shll, Shlr, Rotxl, Rotxr, Shal, Shar, Rotl, Rotr}
 use Rattle.entry.specs.Entry.{turns}
 use Rattle.execute.proofs.Laws.{shift_obeys}
-use borrow.Author.Rules.{rules}
 use Rattle.execute.proofs.turn_short.Goals as goal
 
 pub returns-in-0 : goal.returns-in-0

@@ -1,5 +1,4 @@
 use Rattle.entry.specs.Entry.{turned}
-use borrow.Author.Rules.{rules}
 use Rattle.execute.proofs.turned.Goals as goal
 
 pub returns : goal.returns

@@ -1,5 +1,4 @@
 use Rattle.entry.specs.Entry.{turned_long}
-use borrow.Author.Rules.{rules}
 use Rattle.execute.proofs.turned_long.Goals as goal
 
 pub returns : goal.returns

@@ -1,6 +1,5 @@
 use Rattle.figure.specs.MirrorFigure.{figure_of}
 use borrow.Author.Tests.{lt-ltb, le-ltb}
-use borrow.Author.Rules.{rules}
 use Rattle.figure.proofs.held.Goals as goal
 
 pub returns-then-total-gt-LIMIT : goal.returns-then-total-gt-LIMIT

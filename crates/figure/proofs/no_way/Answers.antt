@@ -1,6 +1,5 @@
 use Rattle.figure.specs.MirrorFigure.{no_way_of}
 use borrow.Author.Tests.{eq-eqb, ne_eqb}
-use borrow.Author.Rules.{rules}
 use Rattle.figure.proofs.no_way.Goals as goal
 
 pub returns-then-low-place : goal.returns-then-low-place

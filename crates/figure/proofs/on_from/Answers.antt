@@ -1,6 +1,5 @@
 use Rattle.figure.specs.MirrorFigure.{on_from}
 use borrow.Author.Tests.{eq-eqb, ne_eqb}
-use borrow.Author.Rules.{rules}
 use Rattle.figure.proofs.on_from.Goals as goal
 
 pub returns-then-low-eq-NONE : goal.returns-then-low-eq-NONE

@@ -2,7 +2,6 @@ use native.Mathlib.Omega.{arith}
 use Rattle.codes.proofs.Laws.{bytes_of}
 use Rattle.figure.specs.MirrorFigure.{way_of, way_asked}
 use Rattle.figure.proofs.Ways.{way_told}
-use borrow.Author.Rules.{rules}
 use Rattle.figure.proofs.way.Goals as goal
 
 pub returns-in-Fit : goal.returns-in-Fit

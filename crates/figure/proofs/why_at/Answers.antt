@@ -1,5 +1,4 @@
 use Rattle.figure.specs.MirrorFigure.{why_at}
-use borrow.Author.Rules.{rules}
 use Rattle.figure.proofs.why_at.Goals as goal
 
 pub returns : goal.returns

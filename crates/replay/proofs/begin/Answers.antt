@@ -1,9 +1,7 @@
 use mathlib.Core.Path.{◌≡◌}
-use mathlib.Core.Bool.{true, false, ◌&&◌}
+use mathlib.Core.Bool.{true, false}
 use Rattle.step.specs.Step.{good_start}
-use lib.ListN.{length}
 use Rattle.replay.specs.Replay.{begun}
-use borrow.Author.Rules.{rules}
 use Rattle.replay.proofs.begin.Goals as goal
 
 pub returns-then-good_board-good_pc : goal.returns-then-good_board-good_pc

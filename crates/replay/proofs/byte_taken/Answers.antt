@@ -2,7 +2,6 @@ use Rattle.replay.specs.declared.Standing.{Standing}
 use mathlib.Core.Path.{refl, ap}
 use Rattle.replay.proofs.Bytes.{by_stage}
 use Rattle.replay.specs.Replay.{moment, stage_taken}
-use borrow.Author.Rules.{rules}
 use Rattle.replay.proofs.byte_taken.Goals as goal
 
 pub returns-in-Version : goal.returns-in-Version

@@ -1,6 +1,5 @@
 use Rattle.replay.specs.Replay.{compared}
 use borrow.Author.Tests.{eq-eqb, ne_eqb}
-use borrow.Author.Rules.{rules}
 use Rattle.replay.proofs.compare.Goals as goal
 
 pub returns-then-p-r : goal.returns-then-p-r

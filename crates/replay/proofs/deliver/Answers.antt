@@ -2,12 +2,6 @@ use Rattle.replay.specs.Cuts.{took}
 use mathlib.Core.Path.{sym, ◌∙◌, ap}
 use Rattle.replay.proofs.Cut.{late, in_time}
 use Rattle.replay.specs.Replay.{Moment, moment}
-use borrow.Author.Rules.{rules}
-use Rattle.replay.proofs.deliver.Reads as reads
-use Rattle.replay.proofs.deliver.Lts as lts
-use Rattle.replay.proofs.feed.Reads as feed-reads
-use Rattle.replay.proofs.over.Reads as over_reads
-use Rattle.replay.proofs.said_of.Reads as said-of-reads
 use Rattle.replay.proofs.deliver.Goals as goal
 
 -- src/lib.rt:327:9

@@ -1,5 +1,4 @@
 use Rattle.replay.specs.Replay.{ended_of}
-use borrow.Author.Rules.{rules}
 use Rattle.replay.proofs.end.Goals as goal
 
 pub returns : goal.returns

@@ -1,5 +1,5 @@
 use Prim.Native.Nat.{◌-◌}
-use mathlib.Core.Path.{◌≡◌, sym, ◌∙◌, ap}
+use mathlib.Core.Path.{sym, ◌∙◌, ap}
 use native.Mathlib.Nat.{le_refl}
 use native.Mathlib.Omega.{arith}
 use lib.ListN.{length, drop, length-drop}
@@ -8,7 +8,6 @@ use Rattle.replay.specs.Replay.{Moment, moment, fed}
 use Rattle.replay.specs.MirrorReplay.{ahead_of}
 use Rattle.replay.proofs.Bytes.{parted}
 use Rattle.replay.proofs.Passes.{fits}
-use borrow.Author.Rules.{rules}
 use Rattle.replay.proofs.feed.Goals as goal
 
 pub slice_bounds-one_by_one-end : goal.slice_bounds-one_by_one-end

@@ -1,6 +1,5 @@
 use Rattle.replay.specs.Replay.{first_of}
 use borrow.Author.Tests.{eq-eqb, ne_eqb}
-use borrow.Author.Rules.{rules}
 use Rattle.replay.proofs.first_byte.Goals as goal
 
 pub returns-then-x-eq1 : goal.returns-then-x-eq1

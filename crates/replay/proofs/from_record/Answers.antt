@@ -12,7 +12,6 @@ use Rattle.run.proofs.Turns.{both}
 use Rattle.replay.specs.Replay.{Moment}
 use Rattle.replay.specs.MirrorReplay.{fresh_of}
 use Rattle.replay.proofs.Passes.{passed_bytes, passes}
-use borrow.Author.Rules.{rules}
 use Rattle.replay.proofs.from_record.Goals as goal
 
 pub passed-q-requires : goal.passed-q-requires

@@ -1,6 +1,5 @@
 use Rattle.replay.specs.Replay.{grown}
 use borrow.Author.Tests.{lt-ltb, le-ltb}
-use borrow.Author.Rules.{rules}
 use Rattle.replay.proofs.grow.Goals as goal
 
 pub returns-then-p-lt2 : goal.returns-then-p-lt2

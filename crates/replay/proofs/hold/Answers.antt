@@ -1,6 +1,5 @@
 use Rattle.replay.specs.Replay.{held}
 use borrow.Author.Tests.{eq-eqb, ne_eqb}
-use borrow.Author.Rules.{rules}
 use Rattle.replay.proofs.hold.Goals as goal
 
 pub returns-then-p-eq9 : goal.returns-then-p-eq9

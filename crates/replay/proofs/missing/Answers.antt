@@ -1,5 +1,4 @@
 use borrow.Author.Tests.{lt-ltb, le-ltb}
-use borrow.Author.Rules.{rules}
 use Rattle.replay.proofs.missing.Goals as goal
 
 pub returns-then-m-n : goal.returns-then-m-n

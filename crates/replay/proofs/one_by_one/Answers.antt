@@ -1,8 +1,7 @@
-use Prim.Native.Nat.{◌-◌, ◌≤◌}
-use mathlib.Core.Path.{◌≡◌, refl, sym, ◌∙◌}
+use mathlib.Core.Path.{refl, sym, ◌∙◌}
 use borrow.Author.Rules.{rules}
-use lib.ListN.{length, drop}
-use Rattle.replay.specs.Replay.{moment, fed}
+use lib.ListN.{drop}
+use Rattle.replay.specs.Replay.{moment}
 use Rattle.replay.proofs.Bytes.{told_stays, goes_on, no_more}
 use Rattle.replay.proofs.one_by_one.Goals as goal
 

@@ -1,9 +1,7 @@
 use Prim.Native.Nat.{◌-◌, ◌≤◌}
-use mathlib.Core.Path.{◌≡◌, refl, sym, ◌∙◌}
-use borrow.Author.Rules.{rules}
+use mathlib.Core.Path.{◌≡◌}
 use lib.ListN.{length, drop}
 use Rattle.replay.specs.Replay.{moment, fed}
-use Rattle.replay.proofs.Bytes.{told_stays, goes_on, no_more}
 use Rattle.replay.proofs.one_by_one.Given as goal
 
 abbrev pub invariant-loop-i : goal.invariant-loop-i

@@ -3,7 +3,6 @@ use native.Mathlib.Omega.{arith}
 use Rattle.run.specs.Run.{Ran}
 use Rattle.replay.specs.MirrorReplay.{beyond}
 use Rattle.replay.proofs.Passes.{passed_steps}
-use borrow.Author.Rules.{rules}
 use Rattle.replay.proofs.passed.Goals as goal
 
 pub overflow_add-result : goal.overflow_add-result

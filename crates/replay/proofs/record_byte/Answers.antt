@@ -2,7 +2,6 @@ use mathlib.Core.Path.{◌≡◌}
 use mathlib.Core.Bool.{true, false, ◌&&◌}
 use lib.Dec.{eqb, leb}
 use Rattle.replay.specs.Replay.{stage_taken}
-use borrow.Author.Rules.{rules}
 use Rattle.replay.proofs.record_byte.Goals as goal
 
 pub returns-then-p-k : goal.returns-then-p-k

@@ -1,5 +1,4 @@
 use Rattle.replay.specs.Replay.{replay_of}
-use borrow.Author.Rules.{rules}
 use Rattle.replay.proofs.replay.Goals as goal
 
 pub returns : goal.returns

@@ -1,6 +1,5 @@
 use Rattle.replay.specs.Replay.{end_of}
 use borrow.Author.Tests.{eq-eqb, ne_eqb}
-use borrow.Author.Rules.{rules}
 use Rattle.replay.proofs.report_of.Goals as goal
 
 pub returns-then-p-eq0 : goal.returns-then-p-eq0

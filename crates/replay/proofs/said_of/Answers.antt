@@ -1,7 +1,4 @@
 use Rattle.replay.specs.Cuts.{said_of}
-use borrow.Author.Rules.{rules}
-use Rattle.replay.proofs.said_of.Reads as reads
-use Rattle.replay.proofs.said_of.Lts as lts
 use Rattle.replay.proofs.said_of.Goals as goal
 
 -- src/lib.rt:310:1

@@ -1,5 +1,4 @@
 use Rattle.replay.specs.Replay.{taken, went}
-use borrow.Author.Rules.{rules}
 use Rattle.replay.proofs.step_on.Goals as goal
 
 pub returns-in-Done : goal.returns-in-Done

@@ -1,7 +1,6 @@
 use mathlib.Core.Path.{refl}
 use Rattle.run.proofs.Lines.{none_kept}
 use Rattle.run.proofs.Alone.{counted}
-use borrow.Author.Rules.{rules}
 use Rattle.run.proofs.along.Goals as goal
 
 pub start-k-requires : goal.start-k-requires

@@ -1,5 +1,4 @@
 use borrow.Author.Tests.{lt-ltb, le-ltb}
-use borrow.Author.Rules.{rules}
 use Rattle.run.proofs.fewer.Goals as goal
 
 pub returns-then-n-m : goal.returns-then-n-m

@@ -1,8 +1,6 @@
-use Prim.Native.Nat.{ℕ, ◌+◌, ◌-◌, ◌*◌, ◌/◌, ◌%◌, ◌≤◌}
+use Prim.Native.Nat.{ℕ, ◌-◌, ◌/◌, ◌%◌}
 use mathlib.Core.Path.{◌≡◌, refl, sym, ◌∙◌, ap}
-use mathlib.Core.Bool.{true, ◌&&◌}
 use mathlib.Core.List.{List}
-use mathlib.Core.Logic.{⊎_elim}
 use native.Mathlib.Nat.{sub-zero}
 use native.Mathlib.Omega.{arith}
 use lib.ListN.{length}
@@ -11,13 +9,11 @@ use Rattle.refusal.specs.declared.Outcome.TheVariants.{Done}
 use Rattle.registers.specs.Lent.{lent}
 use Rattle.memory.specs.Board.{good_board}
 use Rattle.entry.specs.Entry.{reg_short, reg_long, imm_byte, imm_word, imm_long, branch_near, branch_far, taken_in, given_in, by_kind}
-use Rattle.step.specs.Step.{After, after, answered, act_of, good_pc, fetch_of}
+use Rattle.step.specs.Step.{After, after, answered, act_of, fetch_of}
 use Rattle.turns.specs.MirrorTurn.{told_in}
 use Rattle.turns.proofs.Laws.{refused_stays, no_turn}
-use Rattle.run.specs.MirrorTrail.{trail_at, Last}
+use Rattle.run.specs.MirrorTrail.{trail_at}
 use Rattle.run.proofs.Quiet.{quiet_counted, quiet_turned, quiet_turned_long}
-use Rattle.run.specs.MirrorKept.{Keeps}
-use Rattle.run.specs.MirrorAlong.{along_from}
 use Rattle.run.proofs.Turns.{no_kind, outside, by_kind_lem, by_trail, step_is, as_done, not_stopped, not_halted, turn_done, turn_refused, same_registers, same_memory, pc_fits, stops, spent, strayed, length_kept, still_good, goes_on, refused}
 use Rattle.run.proofs.repeat.Reads as reads
 use Rattle.run.proofs.repeat.Lts as lts
@@ -41,7 +37,7 @@ turned c =
     let e = c.look-e in
     let by = by_kind_lem (lent s.er s.pc s.f) a.b a.rom.now s.ram e.result c.if-rom-at.false e.ensures.0 in
     elim c.match-e-rem32.branch [
-      in-0 w ↦ simp (w.ram-is, w.er-is, w.t-is) (by 0 w.in-0.is _ (w.reg_byte-t.ensures a.b a.rom.now s.ram))
+      | in-0 w ↦ simp (w.ram-is, w.er-is, w.t-is) (by 0 w.in-0.is _ (w.reg_byte-t.ensures a.b a.rom.now s.ram))
       | in-1 w ↦ simp (w.ram-is, w.er-is, w.t-is) (by 1 w.in-1.is _ (w.reg_word-t.ensures a.b a.rom.now s.ram))
       | in-2 w ↦ simp (w.ram-is, w.er-is, w.t-is) (by 2 w.in-2.is _ (w.reg_long-t.ensures a.b a.rom.now s.ram))
       | in-3 w ↦ simp (w.ram-is, w.er-is, w.t-is) (by 3 w.in-3.is _ (w.imm_byte-t.ensures a.b a.rom.now s.ram))
@@ -77,7 +73,7 @@ trailed c o =
     let r = lent s.er s.pc s.f in
     let by = by_trail r a.b a.rom.now s.ram e.result c.if-rom-at.false e.ensures.0 in
     elim c.match-e-rem32.branch [
-      in-0 w ↦ w.trail-is ∙ by 0 w.in-0.is _ refl
+      | in-0 w ↦ w.trail-is ∙ by 0 w.in-0.is _ refl
       | in-1 w ↦ w.trail-is ∙ by 1 w.in-1.is _ refl
       | in-2 w ↦ w.trail-is ∙ by 2 w.in-2.is _ refl
       | in-3 w ↦ w.trail-is ∙ by 3 w.in-3.is _ refl
@@ -186,5 +182,8 @@ returns-in-Refused c = let m = c in
     let s = m.loop-pc in
     let r = lent s.er s.pc s.f in
     let x = c.in-Refused.is in
-    let e = turn_refused s.er m.match-e-rem32.er s.pc s.f m.match-e-rem32.t a.b a.rom.now s.ram m.match-e-rem32.ram (turned (c.before.before)) _ x in record { did = rw (same_registers s.er m.match-e-rem32.er s.pc s.f m.match-e-rem32.t a.b a.rom.now s.ram m.match-e-rem32.ram (turned (c.before.before)) _ x)
-          (sym (refused a.b a.rom.now a.stop a.records.now s.ram r s.steps s.states s.invariant.5 _ _ e a.budget m.if-pc-stop.false s.invariant.2 m.if-steps-budget.false (sym m.strays.ensures ∙ m.if-strays.false) _ refl) ∙ s.invariant.4); told = λ h n. absurd (not_halted h) }
+    let e = turn_refused s.er m.match-e-rem32.er s.pc s.f m.match-e-rem32.t a.b a.rom.now s.ram m.match-e-rem32.ram (turned (c.before.before)) _ x in record {
+      did = rw (same_registers s.er m.match-e-rem32.er s.pc s.f m.match-e-rem32.t a.b a.rom.now s.ram m.match-e-rem32.ram (turned (c.before.before)) _ x)
+          (sym (refused a.b a.rom.now a.stop a.records.now s.ram r s.steps s.states s.invariant.5 _ _ e a.budget m.if-pc-stop.false s.invariant.2 m.if-steps-budget.false (sym m.strays.ensures ∙ m.if-strays.false) _ refl) ∙ s.invariant.4);
+      told = λ h n. absurd (not_halted h);
+    }

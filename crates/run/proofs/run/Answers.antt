@@ -2,7 +2,6 @@ use mathlib.Core.Path.{refl, ◌∙◌}
 use native.Mathlib.Omega.{arith}
 use Rattle.run.proofs.Lines.{none_kept}
 use Rattle.run.proofs.Alone.{alone}
-use borrow.Author.Rules.{rules}
 use Rattle.run.proofs.run.Goals as goal
 
 pub start-k-requires : goal.start-k-requires

@@ -1,4 +1,3 @@
-use borrow.Author.Rules.{rules}
 use Rattle.run.proofs.single.Goals as goal
 
 pub returns : goal.returns

@@ -1,7 +1,6 @@
 use mathlib.Core.Path.{◌≡◌, ap}
-use mathlib.Core.Bool.{true, false, ◌&&◌}
+use mathlib.Core.Bool.{true, false}
 use borrow.Author.Tests.{lt-ltb, le-ltb}
-use lib.ListN.{length}
 use Rattle.step.specs.Step.{good_start}
 use Rattle.run.specs.MirrorAlong.{start_of}
 use Rattle.run.specs.declared.Traced.{Traced}

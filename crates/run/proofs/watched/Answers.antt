@@ -5,7 +5,6 @@ use Rattle.run.specs.Run.{Ran}
 use Rattle.run.proofs.Lines.{none_kept}
 use Rattle.run.proofs.Alone.{alone}
 use Rattle.run.proofs.One.{one, single_is, one_told}
-use borrow.Author.Rules.{rules}
 use Rattle.run.proofs.watched.Goals as goal
 
 pub start-k-requires : goal.start-k-requires

@@ -6,7 +6,6 @@ use Rattle.codes.specs.declared.Instruction.TheVariants.{Bsr}
 use Rattle.step.specs.Follow.{follow_of}
 use Rattle.step.specs.Step.{effect_of}
 use Rattle.transfer.proofs.Laws.{push_takes, call_acts}
-use borrow.Author.Rules.{rules}
 use Rattle.transfer.proofs.call_far.Goals as goal
 
 pub returns : goal.returns

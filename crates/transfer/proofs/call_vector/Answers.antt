@@ -8,7 +8,6 @@ use Rattle.step.specs.Follow.{aim_of, follow_of}
 use Rattle.step.specs.Step.{effect_of}
 use Rattle.turns.proofs.Laws.{unread_acts, no_turn}
 use Rattle.transfer.proofs.Laws.{jsr_takes, call_acts}
-use borrow.Author.Rules.{rules}
 use Rattle.transfer.proofs.call_vector.Goals as goal
 
 pub returns-in-Value : goal.returns-in-Value

@@ -1,7 +1,6 @@
 use Rattle.turns.proofs.Laws.{deed_done}
 use mathlib.Core.Path.{sym}
 use Rattle.transfer.proofs.Laws.{push_told}
-use borrow.Author.Rules.{rules}
 use Rattle.transfer.proofs.called.Goals as goal
 
 pub returns : goal.returns

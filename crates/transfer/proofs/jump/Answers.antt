@@ -17,7 +17,6 @@ use Rattle.step.specs.Step.{effect_of}
 use Rattle.entry.specs.Entry.{jumps}
 use Rattle.turns.proofs.Laws.{done_acts, ended_acts}
 use Rattle.transfer.proofs.Laws.{push_takes, call_acts}
-use borrow.Author.Rules.{rules}
 use Rattle.transfer.proofs.jump.Goals as goal
 
 pub returns-in-0 : goal.returns-in-0

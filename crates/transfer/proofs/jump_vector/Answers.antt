@@ -9,7 +9,6 @@ use Rattle.step.specs.Follow.{aim_of, follow_of}
 use Rattle.step.specs.Step.{effect_of}
 use Rattle.turns.proofs.Laws.{done_taking, unread_acts, no_turn}
 use Rattle.transfer.proofs.Laws.{jmp_takes}
-use borrow.Author.Rules.{rules}
 use Rattle.transfer.proofs.jump_vector.Goals as goal
 
 pub returns-in-Value : goal.returns-in-Value

@@ -8,7 +8,6 @@ use Rattle.step.specs.Follow.{follow_of}
 use Rattle.step.specs.Step.{effect_of}
 use Rattle.turns.proofs.Laws.{done_taking, unread_acts, no_turn}
 use Rattle.transfer.proofs.Laws.{rts_takes}
-use borrow.Author.Rules.{rules}
 use Rattle.transfer.proofs.returned.Goals as goal
 
 pub returns-in-Value : goal.returns-in-Value

@@ -15,7 +15,6 @@ use Rattle.step.specs.Step.{after, effect_of, act_of}
 use Rattle.step.specs.declared.StepAnswer.{StepAnswer}
 use Rattle.entry.specs.Entry.{single}
 use Rattle.turns.proofs.Laws.{done_acts, ended_acts, refused_stays}
-use borrow.Author.Rules.{rules}
 use Rattle.transfer.proofs.single.Goals as goal
 
 pub returns-in-0 : goal.returns-in-0

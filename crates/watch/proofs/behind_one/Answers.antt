@@ -1,4 +1,3 @@
-use borrow.Author.Rules.{rules}
 use Rattle.watch.proofs.behind_one.Goals as goal
 
 pub returns-in-Unmade : goal.returns-in-Unmade

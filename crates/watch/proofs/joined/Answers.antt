@@ -1,4 +1,3 @@
-use borrow.Author.Rules.{rules}
 use Rattle.watch.proofs.joined.Goals as goal
 
 pub returns-in-Alone : goal.returns-in-Alone

@@ -1,6 +1,5 @@
 use Rattle.watch.proofs.Laws.{told_list, told_sum}
 use Rattle.watch.proofs.Honest.{told_spares}
-use borrow.Author.Rules.{rules}
 use Rattle.watch.proofs.single.Goals as goal
 
 pub returns : goal.returns

@@ -1,7 +1,6 @@
 use mathlib.Core.Path.{◌∙◌}
 use Rattle.memory.specs.Trail.{trail_in}
 use Rattle.watch.specs.Watch.{listed}
-use borrow.Author.Rules.{rules}
 use Rattle.watch.proofs.unpacked.Goals as goal
 
 pub returns-in-Done : goal.returns-in-Done

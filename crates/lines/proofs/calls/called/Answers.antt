@@ -1,4 +1,3 @@
-use Rattle.std.proofs.Common.{rules}
 use Rattle.lines.proofs.calls.called.Goals as goal
 
 pub returns : goal.returns

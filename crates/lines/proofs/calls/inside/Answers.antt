@@ -1,4 +1,4 @@
-use Rattle.std.proofs.Common.{refl, rules, eq-eqb, ne_eqb}
+use Rattle.std.proofs.Common.{refl, eq-eqb, ne_eqb}
 use Rattle.lines.specs.Calls.{inside_of}
 use Rattle.lines.proofs.calls.inside.Goals as goal
 

@@ -1,5 +1,4 @@
 use Rattle.lines.specs.Calls.{inside_text}
-use Rattle.std.proofs.Common.{rules}
 use Rattle.lines.proofs.calls.inside_text.Goals as goal
 
 pub returns-then-plain : goal.returns-then-plain

@@ -1,4 +1,4 @@
-use Rattle.std.proofs.Common.{◌*◌, rules}
+use Rattle.std.proofs.Common.{◌*◌}
 use Rattle.wording.proofs.Padding.{indented}
 use Rattle.lines.specs.Calls.{level_text}
 use Rattle.lines.proofs.calls.level.Goals as goal

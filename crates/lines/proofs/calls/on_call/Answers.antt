@@ -1,5 +1,5 @@
 use Rattle.lines.specs.Calls.{entered_text}
-use Rattle.std.proofs.Common.{rules, eq-eqb, ne_eqb}
+use Rattle.std.proofs.Common.{eq-eqb, ne_eqb}
 use Rattle.wording.proofs.Padding.{nothing}
 use Rattle.lines.proofs.calls.on_call.Goals as goal
 

@@ -1,5 +1,4 @@
 use Rattle.lines.specs.Calls.{with_call}
-use Rattle.std.proofs.Common.{rules}
 use Rattle.lines.proofs.calls.with_call.Goals as goal
 
 pub returns : goal.returns

@@ -1,4 +1,3 @@
-use Rattle.std.proofs.Common.{rules}
 use Rattle.lines.proofs.figures.figure.Goals as goal
 
 pub returns-in-Longest : goal.returns-in-Longest

@@ -1,5 +1,5 @@
 use Rattle.lines.specs.Figures.{fits_plain}
-use Rattle.std.proofs.Common.{rules, le-leb}
+use Rattle.std.proofs.Common.{le-leb}
 use borrow.Author.Tests.{lt-leb}
 use Rattle.text.proofs.Adding.{more}
 use Rattle.lines.proofs.figures.fits_plain.Goals as goal

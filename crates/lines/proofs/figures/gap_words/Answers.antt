@@ -1,5 +1,5 @@
 use Rattle.lines.specs.Figures.{gap_words}
-use Rattle.std.proofs.Common.{rules, le-leb}
+use Rattle.std.proofs.Common.{le-leb}
 use borrow.Author.Tests.{lt-leb}
 use Rattle.lines.proofs.figures.gap_words.Goals as goal
 

@@ -1,5 +1,4 @@
 use Rattle.wording.proofs.Padding.{nothing}
-use Rattle.std.proofs.Common.{rules}
 use Rattle.lines.proofs.figures.in_gap.Goals as goal
 
 pub returns-in-States : goal.returns-in-States

@@ -1,5 +1,4 @@
 use Rattle.lines.specs.Figures.{longest_text}
-use Rattle.std.proofs.Common.{rules}
 use Rattle.lines.proofs.figures.longest.Goals as goal
 
 pub returns-then-plain : goal.returns-then-plain

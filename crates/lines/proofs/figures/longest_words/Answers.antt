@@ -1,5 +1,4 @@
 use Rattle.text.proofs.Adding.{more}
-use Rattle.std.proofs.Common.{rules}
 use Rattle.lines.proofs.figures.longest_words.Goals as goal
 
 pub returns : goal.returns

@@ -1,4 +1,3 @@
-use Rattle.std.proofs.Common.{rules}
 use Rattle.lines.proofs.places.count.Goals as goal
 
 pub returns-in-Code : goal.returns-in-Code

@@ -1,6 +1,5 @@
 use Rattle.lines.specs.Places.{last_number}
 use Rattle.text.proofs.Adding.{more}
-use Rattle.std.proofs.Common.{rules}
 use Rattle.lines.proofs.places.last_number.Goals as goal
 
 pub returns-then-plain : goal.returns-then-plain

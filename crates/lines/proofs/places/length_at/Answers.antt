@@ -1,4 +1,3 @@
-use Rattle.std.proofs.Common.{rules}
 use Rattle.lines.proofs.places.length_at.Goals as goal
 
 pub returns : goal.returns

@@ -1,6 +1,5 @@
 use Rattle.lines.specs.Places.{list_heading}
 use Rattle.wording.proofs.Padding.{nothing}
-use Rattle.std.proofs.Common.{rules}
 use Rattle.lines.proofs.places.list_heading.Goals as goal
 
 pub returns-then-plain : goal.returns-then-plain

@@ -1,6 +1,5 @@
 use Rattle.lines.specs.Places.{listed_text}
 use Rattle.text.proofs.Adding.{more}
-use Rattle.std.proofs.Common.{rules}
 use Rattle.lines.proofs.places.listed.Goals as goal
 
 pub returns : goal.returns

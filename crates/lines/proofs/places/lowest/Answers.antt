@@ -1,6 +1,5 @@
 use Rattle.lines.specs.Places.{lowest_text}
 use Rattle.text.proofs.Adding.{more}
-use Rattle.std.proofs.Common.{rules}
 use Rattle.lines.proofs.places.lowest.Goals as goal
 
 pub returns-then-plain : goal.returns-then-plain

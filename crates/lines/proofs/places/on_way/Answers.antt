@@ -1,6 +1,5 @@
 use Rattle.lines.specs.Places.{on_way_text}
 use Rattle.text.proofs.Adding.{more}
-use Rattle.std.proofs.Common.{rules}
 use Rattle.lines.proofs.places.on_way.Goals as goal
 
 pub returns : goal.returns

@@ -1,5 +1,5 @@
 use Rattle.lines.specs.Places.{row_text}
-use Rattle.std.proofs.Common.{rules, eq-eqb, ne_eqb}
+use Rattle.std.proofs.Common.{eq-eqb, ne_eqb}
 use Rattle.lines.proofs.places.row.Goals as goal
 
 pub returns-then-r-eq-NONE : goal.returns-then-r-eq-NONE

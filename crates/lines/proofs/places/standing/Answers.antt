@@ -1,5 +1,4 @@
 use Rattle.lines.specs.Places.{standing_text}
-use Rattle.std.proofs.Common.{rules}
 use Rattle.lines.proofs.places.standing.Goals as goal
 
 pub returns-then-plain : goal.returns-then-plain

@@ -1,5 +1,4 @@
 use Rattle.wording.proofs.Padding.{nothing}
-use Rattle.std.proofs.Common.{rules}
 use Rattle.lines.proofs.places.states_plain.Goals as goal
 
 pub returns-in-Code : goal.returns-in-Code

@@ -1,5 +1,4 @@
 use Rattle.lines.specs.Places.{total_of}
-use Rattle.std.proofs.Common.{rules}
 use Rattle.lines.proofs.places.total.Goals as goal
 
 pub returns : goal.returns

@@ -1,6 +1,5 @@
 use Rattle.lines.specs.Places.{way_heading}
 use Rattle.wording.proofs.Padding.{nothing}
-use Rattle.std.proofs.Common.{rules}
 use Rattle.lines.proofs.places.way_heading.Goals as goal
 
 pub returns-then-plain : goal.returns-then-plain

@@ -1,5 +1,5 @@
 use Rattle.lines.specs.Ports.{carried_fault}
-use Rattle.std.proofs.Common.{rules, le-ltb, lt-ltb}
+use Rattle.std.proofs.Common.{le-ltb, lt-ltb}
 use Rattle.lines.proofs.ports.carried_fault.Goals as goal
 
 pub returns-then-a-rom : goal.returns-then-a-rom

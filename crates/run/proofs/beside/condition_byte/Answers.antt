@@ -1,4 +1,3 @@
-use borrow.Author.Rules.{rules}
 use Rattle.run.proofs.Gathered.{gathered}
 use Rattle.run.proofs.beside.condition_byte.Goals as goal
 

@@ -1,6 +1,5 @@
 use Prim.Native.Nat.{◌+◌}
 use native.Mathlib.Omega.{arith}
-use borrow.Author.Rules.{rules}
 use lib.ListN.{get_or}
 use Rattle.run.proofs.Strays.{turned}
 use Rattle.run.proofs.beside.other_length.Goals as goal

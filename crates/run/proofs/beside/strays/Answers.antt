@@ -1,8 +1,6 @@
-use mathlib.Core.Path.{◌≡◌, refl, sym, ◌∙◌}
 use native.Mathlib.Omega.{arith}
 use borrow.Author.Tests.{eq-eqb, ne_eqb}
 use Rattle.run.proofs.Strays.{absent, present}
-use borrow.Author.Rules.{rules}
 use Rattle.run.proofs.beside.strays.Goals as goal
 
 pub returns-then-w-eq0 : goal.returns-then-w-eq0

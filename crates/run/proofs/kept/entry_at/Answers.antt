@@ -3,7 +3,6 @@ use lib.ListN.{drop}
 use Rattle.codes.specs.Exact.{Bytes}
 use Rattle.codes.proofs.Laws.{bytes_of, bytes_drop, rest_of}
 use Rattle.run.proofs.Lines.{entry_means}
-use borrow.Author.Rules.{rules}
 use Rattle.run.proofs.kept.entry_at.Goals as goal
 
 pub returns : goal.returns

@@ -1,4 +1,3 @@
-use borrow.Author.Rules.{rules}
 use Rattle.run.proofs.kept.entry_of.Goals as goal
 
 pub returns-in-Is : goal.returns-in-Is

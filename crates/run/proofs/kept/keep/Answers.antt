@@ -1,6 +1,5 @@
 use mathlib.Core.Path.{sym}
 use lib.Seq.{set_out}
-use borrow.Author.Rules.{rules}
 use Rattle.run.proofs.kept.keep.Goals as goal
 
 pub returns-else-i-lines : goal.returns-else-i-lines

@@ -1,6 +1,5 @@
 use mathlib.Core.Path.{sym}
 use lib.ListN.{get_or-eq_default}
-use borrow.Author.Rules.{rules}
 use Rattle.run.proofs.kept.line.Goals as goal
 
 pub returns-else-i-lines : goal.returns-else-i-lines

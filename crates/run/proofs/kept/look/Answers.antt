@@ -1,5 +1,4 @@
 use Rattle.run.proofs.Lines.{keeps}
-use borrow.Author.Rules.{rules}
 use Rattle.run.proofs.kept.look.Goals as goal
 
 pub returns-then-c-tag : goal.returns-then-c-tag

@@ -1,6 +1,5 @@
 use borrow.Author.Tests.{ne_eqb}
 use Rattle.transfer.specs.MirrorTransfer.{aim_in}
-use borrow.Author.Rules.{rules}
 use Rattle.transfer.proofs.moving.aimed.Goals as goal
 
 pub returns-in-0 : goal.returns-in-0

@@ -1,4 +1,3 @@
-use borrow.Author.Rules.{rules}
 use Rattle.transfer.proofs.moving.displaced.Goals as goal
 
 pub returns : goal.returns

@@ -1,6 +1,5 @@
 use borrow.Author.Tests.{eq-eqb, ne_eqb}
 use Rattle.transfer.specs.MirrorTransfer.{high_of}
-use borrow.Author.Rules.{rules}
 use Rattle.transfer.proofs.moving.high.Goals as goal
 
 pub returns-then-m-eq8 : goal.returns-then-m-eq8

@@ -5,7 +5,6 @@ use Rattle.arith.specs.declared.Width.TheVariants.{Long}
 use Rattle.entry.specs.Entry.{dir_of, moved, move_by}
 use Rattle.transfer.specs.MirrorTransfer.{low_of, high_of}
 use Rattle.transfer.proofs.Laws.{aimed_moves, aimed_trail}
-use borrow.Author.Rules.{rules}
 use Rattle.transfer.proofs.moving.long.Goals as goal
 
 pub returns-then-k-eq1 : goal.returns-then-k-eq1

@@ -2,7 +2,6 @@ use Rattle.turns.proofs.Laws.{deed_done}
 use mathlib.Core.Path.{sym}
 use borrow.Author.Tests.{lt-ltb, le-ltb}
 use Rattle.transfer.proofs.Laws.{step_loads, step_stores}
-use borrow.Author.Rules.{rules}
 use Rattle.transfer.proofs.moving.step_byte.Goals as goal
 
 pub returns-then-k-lt8 : goal.returns-then-k-lt8

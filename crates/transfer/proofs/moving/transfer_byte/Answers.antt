@@ -1,7 +1,6 @@
 use Rattle.turns.proofs.Laws.{deed_done}
 use borrow.Author.Tests.{lt-ltb, le-ltb}
 use Rattle.transfer.proofs.Laws.{aim_loads, aim_stores}
-use borrow.Author.Rules.{rules}
 use Rattle.transfer.proofs.moving.transfer_byte.Goals as goal
 
 pub returns-then-k-lt8 : goal.returns-then-k-lt8
