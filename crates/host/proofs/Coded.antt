@@ -11,13 +11,13 @@ use Rattle.codes.specs.Code.{length_of}
 use Rattle.codes.specs.Valid.{Valid}
 use Rattle.codes.specs.Exact.{Decodes, accepted, cut_short, unheld, Encodes, written, not_instruction, too_short}
 use Rattle.codes.proofs.Laws.{code_sized}
-use Rattle.layout.specs.Names.{Instruction, Decoded, Code, NoCode, Encoded, Written, NotWritten, NotInstruction, LentTooShort}
+use Rattle.layout.specs.Names.{Instruction, Decoded, Encoded, Written, NotWritten, NotInstruction, LentTooShort}
 use Rattle.layout.specs.declared.rows.Named.{Named}
 use Rattle.layout.specs.declared.rows.Named.TheVariants.{Names, NamesNone}
 use Rattle.layout.specs.Rows.{row_of, seven, numbers_of}
 use Rattle.layout.specs.MirrorRows.{named_of}
 use Rattle.layout.specs.MirrorLent.{row_in}
-use Rattle.layout.proofs.Named.{named_valid, named_is, named_none, first_seven, seven_one}
+use Rattle.layout.proofs.Named.{named_valid, named_is, first_seven, seven_one}
 use Rattle.host.specs.Answers.{Noted, noted, refused_with, tell}
 use Rattle.host.specs.Codes.{Decoding, decoding, decode_left, DecodeCall, fields_short, decoded, Encoding, encoding, with_out, Spells, encode_told, EncodeCall, unspelt, encoded}
 use Rattle.host.specs.MirrorCodes.{put_of, named_in, EncodesNamed, named, unnamed, tell_of}

@@ -1,10 +1,9 @@
 -- The figure and h8_routine. Where `figure` answers n for an entry, the run that h8_routine makes from there, `routine_of`, with any stop address and any budget
 -- that is allowed, has at most n states, and makes no ninth level of calls. Assumes nothing.
 use mathlib.Core.Path.{◌≡◌, refl}
-use mathlib.Core.Bool.{true, ◌&&◌}
-use mathlib.Core.List.{List, []}
-use Prim.Native.Nat.{ℕ, ◌+◌, ◌≤◌}
-use native.Mathlib.Omega.{arith}
+use mathlib.Core.Bool.{true}
+use mathlib.Core.List.{List}
+use Prim.Native.Nat.{ℕ, ◌≤◌}
 use lib.ListN.{length}
 use Rattle.site.specs.declared.Site.{Site}
 use Rattle.registers.specs.declared.Registers.{Registers}

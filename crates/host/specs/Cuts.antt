@@ -1,7 +1,6 @@
 -- host/h8.h, h8_replay_begin, h8_replay_take and h8_replay_end: what they return and leave in the lent arrays. A replay is carried from call to call as the
 -- numbers of a lent array (`carried`).
 use Rattle.std.specs.Prelude.{ℕ, cond, List, [], ◌∷◌, ltb, length, get_or}
-use Rattle.refusal.specs.declared.Refusal.{Refusal}
 use Rattle.refusal.specs.declared.Refusal.TheVariants.{BadBoard, LentTooShort}
 use Rattle.replay.specs.Replay.{moment, standing, begun, ended_of}
 use Rattle.replay.specs.Cuts.{Arrived, said_of, deliver_of}
@@ -15,7 +14,7 @@ use Rattle.layout.specs.Lent.{overwrite}
 use Rattle.layout.specs.Board.{board_of}
 use Rattle.layout.specs.Registers.{registers_length, registers_of}
 use Rattle.host.specs.Answers.{Noted, completed, tell}
-use Rattle.host.specs.Steps.{Left, left, leaving}
+use Rattle.host.specs.Steps.{Left, left}
 use Rattle.host.specs.Replays.{replay_answer}
 
 -- what is returned, and the replay's numbers and the answer afterwards

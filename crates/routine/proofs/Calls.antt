@@ -1,15 +1,14 @@
 -- Whether a call would complete is what the step's outcome says; a return writes nothing. Assumes nothing.
-use Prim.Native.Nat.{ℕ, ◌≤◌, ◌<◌}
+use Prim.Native.Nat.{ℕ}
 use mathlib.Core.Path.{◌≡◌, refl, sym, ap, ◌∙◌}
-use mathlib.Core.Bool.{Bool, true, false, cond, ◌&&◌}
+use mathlib.Core.Bool.{Bool, true, false, ◌&&◌}
 use mathlib.Core.List.{List, []}
 use native.Mathlib.Omega.{arith}
 use lib.Dec.{ltb}
 use lib.ListN.{length, drop, drop_of_length-le}
-use borrow.Author.Tests.{ltb-false, lt-ltb}
+use borrow.Author.Tests.{ltb-false}
 use Rattle.arith.specs.declared.Width.TheVariants.{Long}
 use Rattle.refusal.specs.declared.Refusal.{Refusal}
-use Rattle.refusal.specs.declared.Refusal.TheVariants.{WriteOutside}
 use Rattle.refusal.specs.declared.Outcome.{Outcome}
 use Rattle.refusal.specs.declared.Outcome.TheVariants.{Done, Refused}
 use Rattle.registers.specs.declared.Registers.{Registers}
@@ -27,14 +26,13 @@ use Rattle.codes.specs.declared.Target.{Target}
 use Rattle.codes.specs.declared.Target.TheVariants.{ByReg, Direct, Vector}
 use Rattle.codes.specs.declared.Goes.{Goes}
 use Rattle.codes.specs.declared.Goes.TheVariants.{Onward, Branches, Jumps, CallsNear, Calls, Returns}
-use Rattle.codes.specs.declared.Decoded.{Decoded}
 use Rattle.codes.specs.declared.Decoded.TheVariants.{Code, NoCode}
 use Rattle.codes.specs.declared.Instruction.{Instruction}
 use Rattle.codes.specs.declared.Instruction.TheVariants.{Nop, Stc, LdcReg, Ccr, Alu, IncDec, AddsSubs, Decimal, Shift, Unary, Multiply, Divide, Takes, Gives, Move, Bcc, Jmp, Bsr, Jsr, Rts}
 use Rattle.flow.specs.Targets.{next_of}
 use Rattle.decoder.specs.MirrorDecode.{decode_of}
 use Rattle.step.specs.Follow.{aim_of, follow_of}
-use Rattle.step.specs.Step.{effect_of, After, after, finish_of, carry_of, obey_of, act_of, fetch_of, good_pc, step_of}
+use Rattle.step.specs.Step.{effect_of, finish_of, carry_of, obey_of, act_of, fetch_of, good_pc, step_of}
 use Rattle.step.specs.Processor.{Calling}
 use Rattle.routine.specs.MirrorTurn.{was_read, aims, room_at, below_of, completes_in}
 

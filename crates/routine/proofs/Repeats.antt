@@ -1,5 +1,5 @@
 -- A run of the mode on a right board is the repeated step of `keeping`. Assumes nothing.
-use Prim.Native.Nat.{ℕ, zero, suc, ◌+◌, ◌≤◌, ◌<◌}
+use Prim.Native.Nat.{ℕ, zero, suc, ◌+◌, ◌≤◌}
 use mathlib.Core.Path.{◌≡◌, refl, sym, ap, ◌∙◌}
 use mathlib.Core.Bool.{Bool, true, false, cond, ◌&&◌}
 use mathlib.Core.List.{List, [], ◌∷◌}
@@ -22,14 +22,14 @@ use Rattle.codes.specs.declared.Decoded.TheVariants.{Code, NoCode}
 use Rattle.codes.specs.declared.Instruction.{Instruction}
 use Rattle.flow.specs.Targets.{next_of}
 use Rattle.decoder.specs.MirrorDecode.{decode_of}
-use Rattle.machine.specs.Machine.{Machine, Steps, none, more, Leaving, ninth, elsewhere}
-use Rattle.machine.specs.Keeping.{Keeps, keeps, Moves, went, called, came, home, Ends, at_ninth, at_elsewhere, Home, last, keeping}
+use Rattle.machine.specs.Machine.{Machine, none, more}
+use Rattle.machine.specs.Keeping.{Keeps, keeps, Moves, went, called, came, home, at_ninth, at_elsewhere, Home, last, keeping}
 use Rattle.step.specs.Step.{After, after, answered, good_pc, step_of}
 use Rattle.step.specs.Processor.{State, Calling, processor}
 use Rattle.step.proofs.Laws.{step_refused}
 use Rattle.run.specs.Repeated.{state}
-use Rattle.routine.specs.Routine.{Routined, routined, told, in_order_of, Turn, on, goes_home, leaves, pushing, returning, turn_by, turn_of, taken, onward, routine_from, routine_of}
-use Rattle.routine.specs.Repeated.{Away, Before, RunsTo, stopped, spent, halted, ninth_met, elsewhere_met, returned, Repeated}
+use Rattle.routine.specs.Routine.{Routined, routined, told, in_order_of, Turn, on, leaves, pushing, returning, turn_by, turn_of, taken, onward, routine_from, routine_of}
+use Rattle.routine.specs.Repeated.{Before, RunsTo, stopped, spent, halted, ninth_met, elsewhere_met, returned, Repeated}
 use Rattle.routine.specs.declared.Ending.{Ending}
 use Rattle.routine.specs.declared.Ending.TheVariants.{AtStop, Spent, Halted, Returned, Ninth, Elsewhere}
 

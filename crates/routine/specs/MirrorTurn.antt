@@ -1,7 +1,6 @@
 -- One turn as the code makes it, over the eight numbers and the count in which it keeps the addresses. Nothing here is to be believed.
 use Rattle.std.specs.Prelude.{ℕ, ◌+◌, ◌-◌, ◌%◌, Bool, true, false, cond, ◌&&◌, List, ltb, eqb, length, set, get_or, drop}
 use Rattle.arith.specs.declared.Width.TheVariants.{Long}
-use Rattle.refusal.specs.declared.Refusal.{Refusal}
 use Rattle.refusal.specs.declared.Outcome.{Outcome}
 use Rattle.refusal.specs.declared.Outcome.TheVariants.{Done, Refused}
 use Rattle.registers.specs.declared.Registers.{Registers}
@@ -24,7 +23,7 @@ use Rattle.decoder.specs.MirrorDecode.{decode_of}
 use Rattle.step.specs.Step.{step_of}
 use Rattle.step.specs.declared.StepAnswer.{StepAnswer}
 use Rattle.routine.specs.declared.Ending.{Ending}
-use Rattle.routine.specs.declared.Ending.TheVariants.{AtStop, Spent, Halted, Returned, Ninth, Elsewhere}
+use Rattle.routine.specs.declared.Ending.TheVariants.{Halted, Returned, Ninth, Elsewhere}
 use Rattle.routine.specs.declared.Going.{Going}
 use Rattle.routine.specs.declared.Going.TheVariants.{On, Ends}
 use Rattle.routine.specs.declared.Seen.{Seen}

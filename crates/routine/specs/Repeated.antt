@@ -4,7 +4,7 @@ use Rattle.refusal.specs.declared.Refusal.{Refusal}
 use Rattle.registers.specs.declared.Registers.{Registers}
 use Rattle.memory.specs.declared.Board.{Board}
 use Rattle.machine.specs.Machine.{Machine, Steps, ninth, elsewhere}
-use Rattle.machine.specs.Keeping.{Keeps, keeps, keeping}
+use Rattle.machine.specs.Keeping.{keeps, keeping}
 use Rattle.step.specs.Processor.{processor}
 use Rattle.run.specs.Repeated.{state}
 use Rattle.routine.specs.Routine.{Routined, in_order_of}

@@ -2,7 +2,6 @@
 -- address kept last (a further ending) if that step isn't refused; a return to that address takes it off, and the run returns when a return completes
 -- with none kept".
 use Rattle.std.specs.Prelude.{ℕ, zero, suc, ◌+◌, cond, ◌&&◌, List, [], ◌∷◌, ltb, eqb, length, set, drop}
-use Rattle.refusal.specs.declared.Refusal.{Refusal}
 use Rattle.refusal.specs.declared.Refusal.TheVariants.{BadBoard, BudgetTooLarge}
 use Rattle.refusal.specs.declared.Outcome.{Outcome}
 use Rattle.refusal.specs.declared.Outcome.TheVariants.{Done, Refused}

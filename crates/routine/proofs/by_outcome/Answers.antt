@@ -1,7 +1,6 @@
 use mathlib.Core.Path.{sym, ap, ◌∙◌}
 use Rattle.refusal.specs.declared.Outcome.{Outcome}
 use Rattle.routine.specs.MirrorTurn.{turned_by}
-use borrow.Author.Rules.{rules}
 use Rattle.routine.proofs.by_outcome.Goals as goal
 
 pub returns-in-Done : goal.returns-in-Done

@@ -1,6 +1,5 @@
 use borrow.Author.Tests.{eq-eqb, ne_eqb}
 use Rattle.routine.specs.MirrorTurn.{came_back}
-use borrow.Author.Rules.{rules}
 use Rattle.routine.proofs.come_back.Goals as goal
 
 pub returns-then-a-kept : goal.returns-then-a-kept

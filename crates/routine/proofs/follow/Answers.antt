@@ -1,5 +1,4 @@
 use Rattle.routine.specs.MirrorTurn.{followed}
-use borrow.Author.Rules.{rules}
 use Rattle.routine.proofs.follow.Goals as goal
 
 pub returns-in-Onward : goal.returns-in-Onward

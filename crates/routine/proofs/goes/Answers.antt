@@ -1,4 +1,3 @@
-use borrow.Author.Rules.{rules}
 use Rattle.routine.proofs.goes.Goals as goal
 
 pub returns-in-Nop : goal.returns-in-Nop

@@ -1,7 +1,6 @@
 use lib.ListN.{drop_of_length-le}
 use Rattle.codes.proofs.Laws.{rest_of}
 use Rattle.routine.specs.MirrorTurn.{seen_in, seen_at}
-use borrow.Author.Rules.{rules}
 use Rattle.routine.proofs.look.Goals as goal
 
 pub returns-then-rom-at : goal.returns-then-rom-at

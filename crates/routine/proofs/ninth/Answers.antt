@@ -1,6 +1,5 @@
 use borrow.Author.Tests.{lt-ltb, le-ltb}
 use Rattle.routine.specs.MirrorTurn.{ninth_in}
-use borrow.Author.Rules.{rules}
 use Rattle.routine.proofs.ninth.Goals as goal
 
 pub returns-then-count-lt8 : goal.returns-then-count-lt8

@@ -1,4 +1,3 @@
-use borrow.Author.Rules.{rules}
 use Rattle.routine.proofs.push.Goals as goal
 
 pub returns : goal.returns

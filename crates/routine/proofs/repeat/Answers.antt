@@ -1,20 +1,11 @@
-use Prim.Native.Nat.{ℕ, ◌+◌, ◌-◌, ◌*◌, ◌≤◌}
-use mathlib.Core.Path.{◌≡◌, refl, sym, ◌∙◌}
-use mathlib.Core.Bool.{true, ◌&&◌}
-use mathlib.Core.List.{List, []}
+use Prim.Native.Nat.{◌-◌}
+use mathlib.Core.Path.{sym, ◌∙◌}
+use mathlib.Core.List.{[]}
 use native.Mathlib.Nat.{sub-zero}
 use native.Mathlib.Omega.{arith}
-use lib.ListN.{length}
 use borrow.Author.Rules.{rules}
-use Rattle.memory.specs.Board.{good_board}
-use Rattle.step.specs.Step.{good_pc}
-use Rattle.routine.specs.Routine.{routine_from}
-use Rattle.routine.specs.declared.Ending.{Ending}
-use Rattle.routine.specs.declared.Going.TheVariants.{On, Ends}
-use Rattle.routine.proofs.Kept.{Carries, none_carried}
-use Rattle.routine.proofs.Loop.{Again, Last, stops, spent, few_steps, turn_again, turn_last}
-use Rattle.routine.proofs.turn.Reads as turn-reads
-use Rattle.routine.proofs.repeat.Reads as reads
+use Rattle.routine.proofs.Kept.{none_carried}
+use Rattle.routine.proofs.Loop.{stops, spent, few_steps, turn_again, turn_last}
 use Rattle.routine.proofs.repeat.Goals as goal
 
 pub loop-q-init : goal.loop-q-init

@@ -1,21 +1,12 @@
-use Prim.Native.Nat.{ℕ, ◌+◌, ◌-◌, ◌*◌, ◌≤◌}
-use mathlib.Core.Path.{◌≡◌, refl, sym, ◌∙◌}
+use Prim.Native.Nat.{ℕ, ◌-◌, ◌*◌, ◌≤◌}
+use mathlib.Core.Path.{◌≡◌}
 use mathlib.Core.Bool.{true, ◌&&◌}
 use mathlib.Core.List.{List, []}
-use native.Mathlib.Nat.{sub-zero}
-use native.Mathlib.Omega.{arith}
 use lib.ListN.{length}
-use borrow.Author.Rules.{rules}
 use Rattle.memory.specs.Board.{good_board}
 use Rattle.step.specs.Step.{good_pc}
 use Rattle.routine.specs.Routine.{routine_from}
-use Rattle.routine.specs.declared.Ending.{Ending}
-use Rattle.routine.specs.declared.Going.TheVariants.{On, Ends}
-use Rattle.routine.proofs.Kept.{Carries, none_carried}
-use Rattle.routine.proofs.Loop.{Again, Last, stops, spent, few_steps, turn_again, turn_last}
-use Rattle.routine.proofs.turn.Reads as turn-reads
-use Rattle.routine.proofs.repeat.Reads as reads
-use Rattle.routine.proofs.repeat.Lts as lts
+use Rattle.routine.proofs.Kept.{Carries}
 use Rattle.routine.proofs.repeat.Given as goal
 
 -- `routine::repeat` meets its contract. The invariant: the addresses are those that a run of the mode keeps, and what is left of the run is what the whole

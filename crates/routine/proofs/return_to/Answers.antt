@@ -1,6 +1,5 @@
 use borrow.Author.Tests.{eq-eqb, ne_eqb}
 use Rattle.routine.specs.MirrorTurn.{returned_to}
-use borrow.Author.Rules.{rules}
 use Rattle.routine.proofs.return_to.Goals as goal
 
 pub returns-then-count-eq0 : goal.returns-then-count-eq0

@@ -1,5 +1,4 @@
 use Rattle.routine.specs.MirrorTurn.{seen_in}
-use borrow.Author.Rules.{rules}
 use Rattle.routine.proofs.standing.Goals as goal
 
 pub returns-in-Code : goal.returns-in-Code

@@ -1,5 +1,4 @@
 use Rattle.routine.specs.MirrorTurn.{turn_in}
-use borrow.Author.Rules.{rules}
 use Rattle.routine.proofs.turn.Goals as goal
 
 pub returns-then-ninth : goal.returns-then-ninth

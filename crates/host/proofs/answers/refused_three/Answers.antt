@@ -1,4 +1,3 @@
-use borrow.Author.Rules.{rules}
 use Rattle.host.proofs.answers.refused_three.Goals as goal
 
 pub returns : goal.returns

@@ -1,5 +1,4 @@
 use Rattle.host.specs.Answers.{refuse}
-use borrow.Author.Rules.{rules}
 use Rattle.host.proofs.answers.refused_wide.Goals as goal
 
 pub returns : goal.returns

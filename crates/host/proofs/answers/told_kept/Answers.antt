@@ -1,7 +1,6 @@
 use mathlib.Core.List.{◌∷◌}
 use Rattle.layout.specs.Lent.{eight_of}
 use Rattle.host.proofs.Told.{stored_told}
-use borrow.Author.Rules.{rules}
 use Rattle.host.proofs.answers.told_kept.Goals as goal
 
 pub returns : goal.returns

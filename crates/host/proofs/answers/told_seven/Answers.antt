@@ -1,6 +1,5 @@
 use mathlib.Core.List.{[], ◌∷◌}
 use Rattle.host.proofs.Told.{stored_told}
-use borrow.Author.Rules.{rules}
 use Rattle.host.proofs.answers.told_seven.Goals as goal
 
 pub returns : goal.returns

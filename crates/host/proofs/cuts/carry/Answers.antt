@@ -1,6 +1,5 @@
 use Rattle.host.specs.Cuts.{carried_on}
 use Rattle.host.proofs.Carrying.{carry_on, numbers_stored}
-use borrow.Author.Rules.{rules}
 use Rattle.host.proofs.cuts.carry.Goals as goal
 
 pub returns : goal.returns

@@ -2,7 +2,6 @@ use borrow.Author.Tests.{lt-ltb, le-ltb}
 use mathlib.Core.Path.{refl}
 use Rattle.host.specs.Cuts.{end_call}
 use Rattle.host.proofs.Carrying.{carry_on}
-use borrow.Author.Rules.{rules}
 use Rattle.host.proofs.cuts.h8_replay_end.Goals as goal
 
 pub returns-then-answer-lt7 : goal.returns-then-answer-lt7

@@ -2,7 +2,6 @@ use borrow.Author.Tests.{lt-ltb, le-ltb}
 use mathlib.Core.Path.{refl}
 use Rattle.host.specs.Cuts.{take_call}
 use Rattle.host.proofs.Carrying.{carry_on, put_beside}
-use borrow.Author.Rules.{rules}
 use Rattle.host.proofs.cuts.h8_replay_take.Goals as goal
 
 pub returns-then-answer-lt7 : goal.returns-then-answer-lt7

@@ -1,6 +1,5 @@
 use borrow.Author.Tests.{lt-ltb, le-ltb}
 use Rattle.host.specs.Cuts.{start_of}
-use borrow.Author.Rules.{rules}
 use Rattle.host.proofs.cuts.start.Goals as goal
 
 pub returns-then-number_at-gt255 : goal.returns-then-number_at-gt255

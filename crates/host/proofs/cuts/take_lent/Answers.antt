@@ -1,5 +1,4 @@
 use Rattle.host.proofs.Carrying.{put_beside}
-use borrow.Author.Rules.{rules}
 use Rattle.host.proofs.cuts.take_lent.Goals as goal
 
 pub returns : goal.returns

@@ -1,5 +1,4 @@
 use Rattle.host.specs.Cuts.{said_answer}
-use borrow.Author.Rules.{rules}
 use Rattle.host.proofs.cuts.tell_said.Goals as goal
 
 pub returns-in-More : goal.returns-in-More

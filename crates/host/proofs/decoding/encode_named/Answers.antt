@@ -1,6 +1,5 @@
 use mathlib.Core.Path.{refl}
 use Rattle.host.specs.MirrorCodes.{named, unnamed}
-use borrow.Author.Rules.{rules}
 use Rattle.host.proofs.decoding.encode_named.Goals as goal
 
 pub returns-in-Names : goal.returns-in-Names

@@ -1,6 +1,5 @@
 use Rattle.host.specs.Codes.{untold}
 use Rattle.host.proofs.Coded.{decode_short, decode_call}
-use borrow.Author.Rules.{rules}
 use Rattle.host.proofs.decoding.h8_decode.Goals as goal
 
 pub returns-then-answer-lt3 : goal.returns-then-answer-lt3

@@ -1,6 +1,5 @@
 use Rattle.host.specs.Codes.{answer_short}
 use Rattle.host.proofs.Coded.{encode_call}
-use borrow.Author.Rules.{rules}
 use Rattle.host.proofs.decoding.h8_encode.Goals as goal
 
 pub returns-then-answer-lt4 : goal.returns-then-answer-lt4

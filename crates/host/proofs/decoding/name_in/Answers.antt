@@ -1,6 +1,5 @@
 use borrow.Author.Tests.{lt-ltb, le-ltb}
 use Rattle.host.specs.MirrorCodes.{named_in}
-use borrow.Author.Rules.{rules}
 use Rattle.host.proofs.decoding.name_in.Goals as goal
 
 pub returns-then-fields-lt9 : goal.returns-then-fields-lt9

@@ -2,7 +2,6 @@ use mathlib.Core.Path.{refl, ◌∙◌}
 use Rattle.layout.proofs.Stored.{nine_stored}
 use Rattle.host.specs.MirrorCodes.{put_of}
 use Rattle.host.proofs.Told.{fill}
-use borrow.Author.Rules.{rules}
 use Rattle.host.proofs.decoding.put_decoded.Goals as goal
 
 pub returns-in-Code : goal.returns-in-Code

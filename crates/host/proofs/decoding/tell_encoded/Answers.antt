@@ -1,5 +1,4 @@
 use Rattle.host.specs.MirrorCodes.{tell_of}
-use borrow.Author.Rules.{rules}
 use Rattle.host.proofs.decoding.tell_encoded.Goals as goal
 
 pub returns-in-Written : goal.returns-in-Written

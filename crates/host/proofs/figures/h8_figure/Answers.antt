@@ -2,7 +2,6 @@ use Rattle.host.specs.Figures.{answer_short}
 use native.Mathlib.Omega.{arith}
 use Rattle.host.proofs.Told.{figure_call}
 use Rattle.host.proofs.Figured.{figure_exactly, figure_kept}
-use borrow.Author.Rules.{rules}
 use Rattle.host.proofs.figures.h8_figure.Goals as goal
 
 pub returns-then-answer-lt4 : goal.returns-then-answer-lt4

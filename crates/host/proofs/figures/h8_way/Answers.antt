@@ -4,7 +4,6 @@ use Rattle.codes.proofs.Laws.{bytes_of}
 use Rattle.layout.specs.Board.{site_of}
 use Rattle.figure.proofs.Ways.{way_told}
 use Rattle.host.specs.Figures.{way_call}
-use borrow.Author.Rules.{rules}
 use Rattle.host.proofs.figures.h8_way.Goals as goal
 
 pub returns-then-answer-lt4 : goal.returns-then-answer-lt4

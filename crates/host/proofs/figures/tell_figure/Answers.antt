@@ -1,5 +1,4 @@
 use Rattle.host.specs.Figures.{figure_told}
-use borrow.Author.Rules.{rules}
 use Rattle.host.proofs.figures.tell_figure.Goals as goal
 
 pub returns-in-Longest : goal.returns-in-Longest

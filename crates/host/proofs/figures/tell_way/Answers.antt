@@ -1,7 +1,6 @@
 use Rattle.layout.specs.Lent.{overwrite}
 use Rattle.host.specs.Answers.{tell}
 use Rattle.host.specs.Figures.{way_told}
-use borrow.Author.Rules.{rules}
 use Rattle.host.proofs.figures.tell_way.Goals as goal
 
 pub returns-in-On : goal.returns-in-On

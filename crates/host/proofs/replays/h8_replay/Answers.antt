@@ -2,7 +2,6 @@ use borrow.Author.Tests.{lt-ltb, le-ltb}
 use mathlib.Core.Path.{refl}
 use Rattle.host.specs.Replays.{replay_call}
 use Rattle.host.proofs.Told.{leave}
-use borrow.Author.Rules.{rules}
 use Rattle.host.proofs.replays.h8_replay.Goals as goal
 
 pub returns-then-answer-lt7 : goal.returns-then-answer-lt7

@@ -1,7 +1,6 @@
 use Rattle.host.specs.Replays.{replay_left}
 use Rattle.host.specs.MirrorReplays.{replay_told}
 use Rattle.host.proofs.Told.{beside}
-use borrow.Author.Rules.{rules}
 use Rattle.host.proofs.replays.replay_lent.Goals as goal
 
 pub returns : goal.returns

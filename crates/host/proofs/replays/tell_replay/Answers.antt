@@ -1,7 +1,6 @@
 use Rattle.layout.proofs.Stored.{ten_stored}
 use Rattle.host.specs.MirrorReplays.{replay_told}
 use Rattle.host.proofs.Told.{keep}
-use borrow.Author.Rules.{rules}
 use Rattle.host.proofs.replays.tell_replay.Goals as goal
 
 pub returns : goal.returns

@@ -1,6 +1,5 @@
 use mathlib.Core.Path.{◌∙◌}
 use Rattle.host.specs.Replays.{replay_answer}
-use borrow.Author.Rules.{rules}
 use Rattle.host.proofs.replays.tell_report.Goals as goal
 
 pub returns-in-Agreed : goal.returns-in-Agreed

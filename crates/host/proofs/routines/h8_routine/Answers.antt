@@ -2,7 +2,6 @@ use borrow.Author.Tests.{lt-ltb, le-ltb}
 use mathlib.Core.Path.{refl}
 use Rattle.host.specs.Routines.{routine_call}
 use Rattle.host.proofs.Told.{leave}
-use borrow.Author.Rules.{rules}
 use Rattle.host.proofs.routines.h8_routine.Goals as goal
 
 pub returns-then-answer-lt15 : goal.returns-then-answer-lt15

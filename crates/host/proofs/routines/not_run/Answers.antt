@@ -1,7 +1,6 @@
 use mathlib.Core.Path.{◌∙◌}
 use Rattle.layout.specs.Lent.{eight_of}
 use Rattle.host.specs.Routines.{unrun}
-use borrow.Author.Rules.{rules}
 use Rattle.host.proofs.routines.not_run.Goals as goal
 
 pub returns : goal.returns

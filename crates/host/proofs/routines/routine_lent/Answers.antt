@@ -1,7 +1,6 @@
 use Rattle.host.specs.Routines.{routine_left}
 use Rattle.host.specs.MirrorSteps.{routine_kept}
 use Rattle.host.proofs.Told.{beside}
-use borrow.Author.Rules.{rules}
 use Rattle.host.proofs.routines.routine_lent.Goals as goal
 
 pub returns : goal.returns

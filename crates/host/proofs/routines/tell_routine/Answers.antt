@@ -1,7 +1,6 @@
 use Rattle.layout.proofs.Stored.{ten_stored}
 use Rattle.host.specs.MirrorSteps.{routine_kept}
 use Rattle.host.proofs.Told.{keep}
-use borrow.Author.Rules.{rules}
 use Rattle.host.proofs.routines.tell_routine.Goals as goal
 
 pub returns : goal.returns

@@ -1,6 +1,5 @@
 use mathlib.Core.Path.{◌∙◌}
 use Rattle.host.specs.Routines.{routine_told}
-use borrow.Author.Rules.{rules}
 use Rattle.host.proofs.routines.tell_why.Goals as goal
 
 pub returns-in-AtStop : goal.returns-in-AtStop

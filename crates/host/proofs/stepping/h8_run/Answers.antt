@@ -2,7 +2,6 @@ use borrow.Author.Tests.{lt-ltb, le-ltb}
 use mathlib.Core.Path.{refl}
 use Rattle.host.specs.Steps.{run_call}
 use Rattle.host.proofs.Told.{leave}
-use borrow.Author.Rules.{rules}
 use Rattle.host.proofs.stepping.h8_run.Goals as goal
 
 pub returns-then-answer-lt6 : goal.returns-then-answer-lt6

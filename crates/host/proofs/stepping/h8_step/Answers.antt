@@ -4,7 +4,6 @@ use native.Mathlib.Omega.{arith}
 use Rattle.host.specs.Steps.{step_call}
 use Rattle.host.proofs.Told.{leave}
 use Rattle.host.proofs.Stepped.{stepped_is, not_returned}
-use borrow.Author.Rules.{rules}
 use Rattle.host.proofs.stepping.h8_step.Goals as goal
 
 pub returns-then-answer-lt-STEP_ANSWER : goal.returns-then-answer-lt-STEP_ANSWER

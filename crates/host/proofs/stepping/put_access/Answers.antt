@@ -1,5 +1,4 @@
 use Rattle.host.proofs.Listed.{access_stored}
-use borrow.Author.Rules.{rules}
 use Rattle.host.proofs.stepping.put_access.Goals as goal
 
 pub returns : goal.returns

@@ -1,4 +1,3 @@
-use borrow.Author.Rules.{rules}
 use Rattle.host.proofs.stepping.put_four.Goals as goal
 
 pub returns : goal.returns

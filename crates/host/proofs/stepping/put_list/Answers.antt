@@ -1,5 +1,4 @@
 use Rattle.host.proofs.Listed.{none_told, one_told, two_told, three_told, four_told}
-use borrow.Author.Rules.{rules}
 use Rattle.host.proofs.stepping.put_list.Goals as goal
 
 pub returns-in-Empty : goal.returns-in-Empty

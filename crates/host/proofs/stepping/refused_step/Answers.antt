@@ -1,6 +1,5 @@
 use mathlib.Core.Path.{◌∙◌}
 use Rattle.host.specs.Steps.{step_answer}
-use borrow.Author.Rules.{rules}
 use Rattle.host.proofs.stepping.refused_step.Goals as goal
 
 pub returns : goal.returns

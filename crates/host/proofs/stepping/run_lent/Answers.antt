@@ -1,7 +1,6 @@
 use Rattle.host.specs.Steps.{run_left}
 use Rattle.host.specs.MirrorSteps.{run_told}
 use Rattle.host.proofs.Told.{beside}
-use borrow.Author.Rules.{rules}
 use Rattle.host.proofs.stepping.run_lent.Goals as goal
 
 pub returns : goal.returns

@@ -1,6 +1,5 @@
 use Rattle.host.specs.MirrorSteps.{step_lent}
 use Rattle.host.proofs.Stepped.{step_summed, step_spares}
-use borrow.Author.Rules.{rules}
 use Rattle.host.proofs.stepping.step_lent.Goals as goal
 
 pub returns : goal.returns

@@ -1,6 +1,5 @@
 use mathlib.Core.Path.{◌∙◌}
 use Rattle.host.specs.Steps.{run_answer}
-use borrow.Author.Rules.{rules}
 use Rattle.host.proofs.stepping.tell_ending.Goals as goal
 
 pub returns-in-AtStop : goal.returns-in-AtStop

@@ -3,7 +3,6 @@ use Rattle.layout.proofs.Stored.{ten_stored}
 use Rattle.host.specs.MirrorSteps.{step_told}
 use Rattle.host.specs.Steps.{step_answer}
 use Rattle.host.proofs.Told.{keep}
-use borrow.Author.Rules.{rules}
 use Rattle.host.proofs.stepping.tell_step.Goals as goal
 
 pub returns-in-Done : goal.returns-in-Done

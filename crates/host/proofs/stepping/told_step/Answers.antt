@@ -1,6 +1,5 @@
 use Rattle.watch.specs.Watch.{list_in}
 use Rattle.host.proofs.Listed.{step_told_lem}
-use borrow.Author.Rules.{rules}
 use Rattle.host.proofs.stepping.told_step.Goals as goal
 
 pub returns : goal.returns

@@ -2,7 +2,6 @@ use mathlib.Core.Path.{ap, ◌∙◌}
 use Rattle.arith.specs.declared.Width.TheVariants.{Long}
 use Rattle.registers.specs.declared.Registers.{Registers}
 use Rattle.registers.specs.Parts.{part_of}
-use borrow.Author.Rules.{rules}
 use Rattle.routine.proofs.ahead.below.Goals as goal
 
 pub returns : goal.returns

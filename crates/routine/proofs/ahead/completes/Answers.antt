@@ -1,5 +1,4 @@
 use Rattle.routine.specs.MirrorTurn.{completes_in}
-use borrow.Author.Rules.{rules}
 use Rattle.routine.proofs.ahead.completes.Goals as goal
 
 pub returns-in-Onward : goal.returns-in-Onward

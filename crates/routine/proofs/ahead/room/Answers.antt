@@ -1,5 +1,4 @@
 use Rattle.routine.specs.MirrorTurn.{room_at}
-use borrow.Author.Rules.{rules}
 use Rattle.routine.proofs.ahead.room.Goals as goal
 
 pub returns : goal.returns
