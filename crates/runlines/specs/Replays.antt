@@ -1,5 +1,5 @@
 -- What `h8 replay` says: that all records agree, which differs and where, or what was refused (document 02, W7).
-use Rattle.std.specs.Prelude.{ℕ, ◌+◌, Bool, false, cond, List, ◌++◌, eqb}
+use Rattle.std.specs.Prelude.{ℕ, Bool, false, cond, List, ◌++◌, eqb}
 use Rattle.refusal.specs.Refusals.{number_of}
 use Rattle.refusal.specs.declared.Refusal.{Refusal}
 use Rattle.replay.specs.declared.Field.{Field}

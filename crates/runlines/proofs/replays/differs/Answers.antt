@@ -1,5 +1,4 @@
 use Rattle.runlines.specs.Replays.{differs_text}
-use borrow.Author.Rules.{rules}
 use Rattle.runlines.proofs.replays.differs.Goals as goal
 
 pub returns-then-plain : goal.returns-then-plain

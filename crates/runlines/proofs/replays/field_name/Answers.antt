@@ -1,4 +1,3 @@
-use borrow.Author.Rules.{rules}
 use Rattle.runlines.proofs.replays.field_name.Goals as goal
 
 pub returns-in-OfPc : goal.returns-in-OfPc

@@ -1,7 +1,6 @@
 use Rattle.text.proofs.Adding.{more}
 use Rattle.runlines.specs.Replays.{stopped_text}
 use borrow.Author.Tests.{eq-eqb, ne_eqb}
-use borrow.Author.Rules.{rules}
 use Rattle.runlines.proofs.replays.stopped.Goals as goal
 
 pub returns-then-number-eq12 : goal.returns-then-number-eq12

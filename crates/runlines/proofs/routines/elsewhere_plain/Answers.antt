@@ -1,5 +1,4 @@
 use Rattle.text.proofs.Adding.{more}
-use borrow.Author.Rules.{rules}
 use Rattle.runlines.proofs.routines.elsewhere_plain.Goals as goal
 
 pub returns : goal.returns

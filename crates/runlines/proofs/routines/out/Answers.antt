@@ -1,5 +1,4 @@
 use Rattle.runlines.specs.Routines.{out_text}
-use borrow.Author.Rules.{rules}
 use Rattle.runlines.proofs.routines.out.Goals as goal
 
 pub returns-then-plain : goal.returns-then-plain

@@ -1,6 +1,5 @@
 use Rattle.runlines.specs.Routines.{routine_held}
 use Rattle.wording.proofs.Padding.{nothing}
-use borrow.Author.Rules.{rules}
 use Rattle.runlines.proofs.routines.out_registers.Goals as goal
 
 pub returns-then-was_begun : goal.returns-then-was_begun

@@ -1,4 +1,3 @@
-use borrow.Author.Rules.{rules}
 use Rattle.runlines.proofs.routines.ran_out.Goals as goal
 
 pub returns-in-AtStop : goal.returns-in-AtStop

@@ -1,5 +1,4 @@
 use Rattle.runlines.specs.Routines.{stopped_text}
-use borrow.Author.Rules.{rules}
 use Rattle.runlines.proofs.routines.stopped.Goals as goal
 
 pub returns-then-tried : goal.returns-then-tried

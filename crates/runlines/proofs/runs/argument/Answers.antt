@@ -1,6 +1,5 @@
 use Rattle.runlines.specs.Runs.{argument_text}
 use borrow.Author.Tests.{eq-eqb, ne_eqb}
-use borrow.Author.Rules.{rules}
 use Rattle.runlines.proofs.runs.argument.Goals as goal
 
 pub returns-then-number-eq12 : goal.returns-then-number-eq12

@@ -1,5 +1,4 @@
 use Rattle.runlines.specs.Runs.{board_fault}
-use borrow.Author.Rules.{rules}
 use Rattle.runlines.proofs.runs.board_fault.Goals as goal
 
 pub returns-then-g : goal.returns-then-g

@@ -1,5 +1,4 @@
 use Rattle.runlines.specs.Runs.{halted_text}
-use borrow.Author.Rules.{rules}
 use Rattle.runlines.proofs.runs.halted.Goals as goal
 
 pub returns-then-tried : goal.returns-then-tried

@@ -1,4 +1,3 @@
-use borrow.Author.Rules.{rules}
 use Rattle.runlines.proofs.runs.has_begun.Goals as goal
 
 pub returns-in-Halted : goal.returns-in-Halted

@@ -1,6 +1,5 @@
 use Rattle.runlines.specs.Runs.{ram_fault}
 use borrow.Author.Tests.{eq-eqb, le-ltb, lt-ltb, ne_eqb}
-use borrow.Author.Rules.{rules}
 use Rattle.runlines.proofs.runs.ram_fault.Goals as goal
 
 pub returns-then-base-eq1 : goal.returns-then-base-eq1

@@ -1,4 +1,3 @@
-use borrow.Author.Rules.{rules}
 use Rattle.runlines.proofs.runs.ran.Goals as goal
 
 pub returns-in-AtStop : goal.returns-in-AtStop

@@ -1,6 +1,5 @@
 use Rattle.runlines.specs.Runs.{held_text}
 use Rattle.wording.proofs.Padding.{nothing}
-use borrow.Author.Rules.{rules}
 use Rattle.runlines.proofs.runs.registers.Goals as goal
 
 pub returns-then-has_begun : goal.returns-then-has_begun

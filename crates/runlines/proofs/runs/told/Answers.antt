@@ -1,5 +1,4 @@
 use Rattle.runlines.specs.Runs.{told_text}
-use borrow.Author.Rules.{rules}
 use Rattle.runlines.proofs.runs.told.Goals as goal
 
 pub returns-then-plain : goal.returns-then-plain

@@ -1,4 +1,3 @@
-use borrow.Author.Rules.{rules}
 use Rattle.runlines.proofs.runs.tried.Goals as goal
 
 pub returns : goal.returns

@@ -1,4 +1,3 @@
-use borrow.Author.Rules.{rules}
 use Rattle.runlines.proofs.runs.why_words.Goals as goal
 
 pub returns-in-AtStop : goal.returns-in-AtStop

@@ -1,6 +1,5 @@
 use Rattle.runlines.specs.Traces.{end_text}
 use Rattle.wording.proofs.Padding.{nothing}
-use borrow.Author.Rules.{rules}
 use Rattle.runlines.proofs.traces.ended.Goals as goal
 
 pub returns-then-plain : goal.returns-then-plain

@@ -1,6 +1,5 @@
 use Rattle.wording.proofs.Padding.{nothing}
 use Rattle.text.proofs.Adding.{more}
-use borrow.Author.Rules.{rules}
 use Rattle.runlines.proofs.traces.last_two.Goals as goal
 
 pub returns : goal.returns

@@ -1,5 +1,4 @@
 use Rattle.runlines.specs.Traces.{access_text}
-use borrow.Author.Rules.{rules}
 use Rattle.runlines.proofs.traces.one.Goals as goal
 
 pub returns-then-plain : goal.returns-then-plain

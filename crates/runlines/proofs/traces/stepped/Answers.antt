@@ -1,5 +1,4 @@
 use Rattle.runlines.specs.Traces.{stepped_text}
-use borrow.Author.Rules.{rules}
 use Rattle.runlines.proofs.traces.stepped.Goals as goal
 
 pub returns-then-plain : goal.returns-then-plain

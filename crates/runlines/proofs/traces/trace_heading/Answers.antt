@@ -1,6 +1,5 @@
 use Rattle.runlines.specs.Traces.{trace_heading}
 use Rattle.wording.proofs.Padding.{nothing}
-use borrow.Author.Rules.{rules}
 use Rattle.runlines.proofs.traces.trace_heading.Goals as goal
 
 pub returns-then-plain : goal.returns-then-plain

@@ -1,6 +1,5 @@
 use Rattle.text.proofs.Adding.{more}
 use Rattle.runlines.specs.Traces.{traced_text}
-use borrow.Author.Rules.{rules}
 use Rattle.runlines.proofs.traces.traced.Goals as goal
 
 pub returns : goal.returns

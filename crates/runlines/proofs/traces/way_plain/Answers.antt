@@ -1,4 +1,3 @@
-use borrow.Author.Rules.{rules}
 use Rattle.runlines.proofs.traces.way_plain.Goals as goal
 
 pub returns-then-write : goal.returns-then-write

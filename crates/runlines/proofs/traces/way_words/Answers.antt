@@ -1,5 +1,4 @@
 use Rattle.text.proofs.Adding.{more}
-use borrow.Author.Rules.{rules}
 use Rattle.runlines.proofs.traces.way_words.Goals as goal
 
 pub returns-then-write : goal.returns-then-write
