@@ -1,5 +1,5 @@
 #!/usr/bin/env python3
-"""tools/respell.py: brings the repository's own definitions, lemmas and fields to snake case, after /opt/rattle/port/port.py, once, at the top.
+"""tools/respell.py: brings the repository's own definitions, lemmas and fields to snake case, after the port.py of the kit, once, at the top.
 
 port.py respells what has a name in today's library. What is left is the repository's own: in specs/ and proofs/ a name that begins with a small
 letter and has a capital within it, or a dash, is written in snake case (types and modules keep theirs). The proof of a function f is f_spec.
