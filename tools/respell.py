@@ -109,8 +109,6 @@ def main():
         if "--dry" not in sys.argv:
             open(path, "w", encoding="utf8").write(word.sub(lambda m: turned[m.group(1)], text))
     print(f"{len(turned)} names")
-    if "--dry" in sys.argv:
-        open("/tmp/turned", "w").write("\n".join(f"{a} {b}" for a, b in sorted(turned.items())))
 
 
 main()
