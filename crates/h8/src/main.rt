@@ -385,11 +385,22 @@ fn with_file(
     Ok(())
 }
 
+// Arrays, so that their lengths need no proof.
+fn with_arrays(
+    rt: &impl Runtime,
+    q: Request,
+    u: Use,
+    rom: &mut [u8; 524290],
+    table: &mut [u64; 524288],
+) -> io::Result<()> {
+    with_file(rt, q, u, rom, table)
+}
+
 // Room for the longest ROM and two bytes more, by which a longer file is found, and a table for it.
 fn with_room(rt: &impl Runtime, q: Request, u: Use) -> io::Result<()> {
-    let mut rom = vec![in rt.alloc(); 0u8; 524290]?;
-    let mut table = vec![in rt.alloc(); 0u64; 524288]?;
-    with_file(rt, q, u, rom.as_mut_slice(), table.as_mut_slice())
+    let mut rom = [0u8; 524290];
+    let mut table = [0u64; 524288];
+    with_arrays(rt, q, u, &mut rom, &mut table)
 }
 
 fn run_or_replay(
@@ -424,12 +435,23 @@ fn run_file(
     Ok(())
 }
 
+fn run_arrays(
+    rt: &impl Runtime,
+    q: Request,
+    u: Use,
+    rom: &mut [u8; 524290],
+    ram: &mut [u8; 65536],
+    again: &mut [u8; 65536],
+) -> io::Result<()> {
+    run_file(rt, q, u, rom, ram, again)
+}
+
 // The same for a run or a replay, with the longest working memory, and one more for the trace of a run.
 fn run_room(rt: &impl Runtime, q: Request, u: Use) -> io::Result<()> {
-    let mut rom = vec![in rt.alloc(); 0u8; 524290]?;
+    let mut rom = [0u8; 524290];
     let mut ram = [0u8; 65536];
     let mut again = [0u8; 65536];
-    run_file(rt, q, u, rom.as_mut_slice(), &mut ram, &mut again)
+    run_arrays(rt, q, u, &mut rom, &mut ram, &mut again)
 }
 
 fn tool(rt: &impl Runtime) -> io::Result<()> {
