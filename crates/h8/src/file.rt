@@ -47,9 +47,15 @@ fn read(rt: &(impl Env + Files), i: usize, buf: &mut [u8]) -> io::Result<usize> 
     fill(&mut file, buf)
 }
 
+// What the system doesn't permit. Its kind is that of a file that may not be read (EACCES).
+const EPERM: i32 = 1;
+
 // Why a file can't be read, by the error's kind; InvalidData is that of a path that is no text.
-fn reason(k: ErrorKind) -> &'static [u8] {
-    match k {
+fn reason(e: &io::Error) -> &'static [u8] {
+    if e.raw_os_error() == Some(EPERM) {
+        return b"the system refuses it\n";
+    }
+    match e.kind() {
         ErrorKind::NotFound => b"there is no such file\n",
         ErrorKind::PermissionDenied => b"it may not be read\n",
         ErrorKind::IsADirectory => b"it is a directory\n",
@@ -68,7 +74,7 @@ pub fn unread(
     e: io::Error,
 ) -> io::Result<()> {
     fault::named(rt, plain, name, i, b" can't be read: ")?;
-    rt.write_all(reason(e.kind()))
+    rt.write_all(reason(&e))
 }
 
 fn odd(rt: &(impl Print + Env), plain: bool, i: usize, n: usize) -> io::Result<()> {
