@@ -6,5 +6,5 @@ mod numbers;
 mod words;
 
 pub use faults::{expected, missing, shown, wrong};
-pub use numbers::{Number, number_in};
+pub use numbers::{NumberError, number_in};
 pub use words::{Kind, Use, asks_help, kind_of, use_of};

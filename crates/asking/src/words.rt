@@ -1,8 +1,10 @@
 // Words and options.
-ghost use Rattle.std.specs.Prelude.{◌≡◌, get_or};
-ghost use Rattle.asking.specs.Words.{same_text, dashed, kind_of, use_of, help_asked};
+#![tactic(auto, unfolding(crate::specs::Words::kind_of, crate::specs::Words::use_of))]
 
-#[derive(Clone, Copy)]
+ghost use Rattle.std.specs.Prelude.{◌≡◌};
+ghost use Rattle.asking.specs.Words.{kind_of, use_of, help_asked};
+
+#[derive(Clone, Copy, Debug, PartialEq, Eq)]
 pub enum Kind {
     AWord,
     PlainOption,
@@ -14,10 +16,9 @@ pub enum Kind {
     RoutineOption,
     DeepOption,
     TraceOption,
-    NoOption,
 }
 
-#[derive(Clone, Copy)]
+#[derive(Clone, Copy, Debug, PartialEq, Eq)]
 pub enum Use {
     ForFigure,
     ForWay,
@@ -25,90 +26,39 @@ pub enum Use {
     ForRun,
     ForReplay,
     ForHelp,
-    NoUse,
 }
 
-pub fn same(a: &[u8], b: &[u8]) -> bool
-    ensures { result ≡ same_text a.now b.now }
-{
-    check::same(a, b)
-}
-
-pub fn byte_at(s: &[u8], i: usize) -> u8
-    ensures { result ≡ get_or s.now i 0 }
-{
-    if i < s.len() { s[i] } else { 0 }
-}
-
-fn two_dashes(s: &[u8]) -> bool
-    ensures { result ≡ dashed s.now }
-{
-    let a = byte_at(s, 0);
-    let b = byte_at(s, 1);
-    (a == b'-') & (b == b'-')
-}
-
-// A word, or which option.
-pub fn kind_of(s: &[u8]) -> Kind
+// A word, or which option; none for an option that is not known.
+pub fn kind_of(s: &[u8]) -> Option<Kind>
     ensures { result ≡ kind_of s.now }
 {
-    if same(s, b"--plain") {
-        return Kind::PlainOption;
-    }
-    if same(s, b"--ram") {
-        return Kind::RamOption;
-    }
-    if same(s, b"--port") {
-        return Kind::PortOption;
-    }
-    if same(s, b"--budget") {
-        return Kind::BudgetOption;
-    }
-    if same(s, b"--stop") {
-        return Kind::StopOption;
-    }
-    if same(s, b"--er") {
-        return Kind::ErOption;
-    }
-    if same(s, b"--routine") {
-        return Kind::RoutineOption;
-    }
-    if same(s, b"--deep") {
-        return Kind::DeepOption;
-    }
-    if same(s, b"--trace") {
-        return Kind::TraceOption;
-    }
-    if two_dashes(s) {
-        Kind::NoOption
-    } else {
-        Kind::AWord
+    match s {
+        b"--plain" => Some(Kind::PlainOption),
+        b"--ram" => Some(Kind::RamOption),
+        b"--port" => Some(Kind::PortOption),
+        b"--budget" => Some(Kind::BudgetOption),
+        b"--stop" => Some(Kind::StopOption),
+        b"--er" => Some(Kind::ErOption),
+        b"--routine" => Some(Kind::RoutineOption),
+        b"--deep" => Some(Kind::DeepOption),
+        b"--trace" => Some(Kind::TraceOption),
+        [b'-', b'-', ..] => None,
+        _ => Some(Kind::AWord),
     }
 }
 
 // The use that the first word names.
-pub fn use_of(s: &[u8]) -> Use
+pub fn use_of(s: &[u8]) -> Option<Use>
     ensures { result ≡ use_of s.now }
 {
-    if same(s, b"help") {
-        return Use::ForHelp;
-    }
-    if same(s, b"figure") {
-        return Use::ForFigure;
-    }
-    if same(s, b"way") {
-        return Use::ForWay;
-    }
-    if same(s, b"list") {
-        return Use::ForList;
-    }
-    if same(s, b"run") {
-        return Use::ForRun;
-    }
-    if same(s, b"replay") {
-        Use::ForReplay
-    } else {
-        Use::NoUse
+    match s {
+        b"help" => Some(Use::ForHelp),
+        b"figure" => Some(Use::ForFigure),
+        b"way" => Some(Use::ForWay),
+        b"list" => Some(Use::ForList),
+        b"run" => Some(Use::ForRun),
+        b"replay" => Some(Use::ForReplay),
+        _ => None,
     }
 }
 
@@ -116,7 +66,5 @@ pub fn use_of(s: &[u8]) -> Use
 pub fn asks_help(s: &[u8]) -> bool
     ensures { result ≡ help_asked s.now }
 {
-    let long = same(s, b"--help");
-    let short = same(s, b"-h");
-    long | short
+    matches!(s, b"--help" | b"-h")
 }

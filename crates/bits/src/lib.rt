@@ -21,7 +21,7 @@ pub fn bit(x: u32, n: u32) -> bool
 fn placed(v: bool, n: u32) -> u64
     ensures { result ≡ num v * 2 ^ (n % 8) }
 {
-    arith::number(v) << (n % 8)
+    u64::from(v) << (n % 8)
 }
 
 // The bit is taken away, and v is put in its place.

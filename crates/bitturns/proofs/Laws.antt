@@ -1,11 +1,11 @@
 -- What the bit instructions come to as entries. Assumes nothing.
+use Rattle.std.specs.Prelude.{Ok}
 use Prim.Native.Nat.{ℕ, ◌+◌, ◌%◌}
 use mathlib.Core.Path.{◌≡◌, refl, sym, ap}
 use mathlib.Core.Bool.{Bool, true, false}
 use mathlib.Core.List.{List, [], ◌∷◌}
 use lib.Dec.{ltb}
 use Rattle.arith.specs.declared.Width.TheVariants.{Byte}
-use Rattle.refusal.specs.declared.Outcome.TheVariants.{Done}
 use Rattle.registers.specs.declared.Condition.{Condition}
 use Rattle.registers.specs.declared.Registers.{Registers}
 use Rattle.registers.specs.Lent.{lent}
@@ -29,7 +29,6 @@ use Rattle.codes.specs.declared.Index.{Index}
 use Rattle.codes.specs.declared.Spot.TheVariants.{InPart, AtEr, AtAbs}
 use Rattle.codes.specs.declared.Instruction.{Instruction}
 use Rattle.codes.specs.declared.Instruction.TheVariants.{Takes, Gives}
-use Rattle.codes.specs.declared.Decoded.TheVariants.{Code}
 use Rattle.step.specs.Follow.{follow_of}
 use Rattle.step.specs.Step.{effect_of}
 use Rattle.turns.specs.MirrorTurn.{turn, ended_of, Turns, TurnsOn}
@@ -40,13 +39,13 @@ use Rattle.bitturns.specs.MirrorBitturns.{address_in}
 -- in a byte register
 module _ (index : Index) (d n pc : ℕ) (er : List ℕ) (f g : Condition) where
   pub take_turns : (take : Take) → Does (λ (r : Registers). took_of take index (part_of Byte r d) r) er er f g
-      → Turns (Code (Takes take index (InPart d)) n) er er pc f (turn g (next_of pc n) 2 Done)
+      → Turns (Ok (Takes take index (InPart d), n)) er er pc f (turn g (next_of pc n) 2 (Ok tt))
   unfolding effect_of follow_of takes_of
   take_turns take h b rom ram =
       done_acts (Takes take index (InPart d)) n (next_of pc n) er pc f b rom ram refl (λ (r : Registers). took_of take index (part_of Byte r d) r) er g refl refl h
 
   pub give_turns : (give : Give) (er' : List ℕ) → Does (λ (r : Registers). with_part Byte r d (gave_of give index (part_of Byte r d) r)) er er' f g
-      → Turns (Code (Gives give index (InPart d)) n) er er' pc f (turn g (next_of pc n) 2 Done)
+      → Turns (Ok (Gives give index (InPart d), n)) er er' pc f (turn g (next_of pc n) 2 (Ok tt))
   unfolding effect_of follow_of gives_of
   give_turns give er' h b rom ram =
       done_acts (Gives give index (InPart d)) n (next_of pc n) er pc f b rom ram refl (λ (r : Registers). with_part Byte r d (gave_of give index (part_of Byte r d) r)) er' g refl refl h
@@ -55,7 +54,7 @@ module _ (index : Index) (d n pc : ℕ) (er : List ℕ) (f g : Condition) where
 module _ (index : Index) (s n pc : ℕ) (er : List ℕ) (f : Condition) (b : Board) (rom ram : List ℕ) (e : Deed) (x : ℕ)
     (cost : x ≡ sum_of b.site (made_at Load Byte (address_in s er))) where
   abbrev pub Ends : Instruction → List ℕ → ℕ → Type 0
-  Ends i m states = TurnsOn (Code i n) er er pc f b rom ram m (ended_of e.outcome e.condition (next_of pc n) states)
+  Ends i m states = TurnsOn (Ok (i, n)) er er pc f b rom ram m (ended_of e.outcome e.condition (next_of pc n) states)
 
   took_ends : (take : Take) (t : Bool) → ltb s 256 ≡ t → effect_in er pc e ≡ takes_at take index (address_in s er) (lent er pc f) b rom ram
       → Ends (Takes take index (spot_as s)) ram (4 + x)

@@ -1,19 +1,18 @@
 -- What the parts of a bit instruction leave. Assumes nothing.
+use Rattle.std.specs.Prelude.{Result, Ok}
 use Prim.Native.Nat.{ℕ, ◌%◌}
 use mathlib.Core.Path.{◌≡◌, sym, ◌∙◌, ap, ap₂}
 use mathlib.Core.Bool.{Bool, true, false}
 use mathlib.Core.List.{List, [], ◌∷◌}
 use native.Mathlib.Nat.{mod-mod}
+use Rattle.refusal.specs.declared.Refusal.{Refusal}
 use Rattle.arith.specs.declared.Width.TheVariants.{Byte}
 use Rattle.registers.specs.declared.Condition.{Condition}
 use Rattle.registers.specs.declared.Registers.{Registers}
 use Rattle.registers.specs.Lent.{lent}
-use Rattle.refusal.specs.declared.Outcome.TheVariants.{Done}
 use Rattle.memory.specs.Access.{write_of, wrote}
-use Rattle.memory.specs.Trail.{touch_of, noted, put_noted}
+use Rattle.memory.specs.Trail.{touch_of, noted, call_noted}
 use Rattle.memory.specs.declared.Board.{Board}
-use Rattle.memory.specs.declared.Got.TheVariants.{Value}
-use Rattle.memory.specs.declared.Put.{Put}
 use Rattle.operate.specs.MirrorLent.{effect_in}
 use Rattle.operate.specs.Results.{Effect}
 use Rattle.moves.specs.Made.{trail_of}
@@ -52,14 +51,14 @@ module _ (index : Index) (x n pc : ℕ) (er : List ℕ) (f : Condition) (v : Boo
   given_is give u y d e = e ∙ ap₂ (λ (m : ℕ) (t : Bool). with_bit m x t) number_is (d ∙ ap (λ (t : Bool). given_of give t f.c) bit_is)
 
 -- the byte written back
-pub given_stored : (give : Give) (index : Index) (a x y pc : ℕ) (er : List ℕ) (f : Condition) (b : Board) (ram ram' : List ℕ) (p : Put)
+pub given_stored : (give : Give) (index : Index) (a x y pc : ℕ) (er : List ℕ) (f : Condition) (b : Board) (ram ram' : List ℕ) (p : Result (Unit {0}) Refusal)
     → y ≡ gave_of give index x (lent er pc f) → wrote p ram' ≡ write_of Byte b ram a y
-    → stepped (effect_in er pc (kept_of p f f)) ram' ≡ gave_to (Value x) give index a (lent er pc f) b ram
+    → stepped (effect_in er pc (kept_of p f f)) ram' ≡ gave_to (Ok x) give index a (lent er pc f) b ram
 unfolding gave_to
 given_stored give index a x y pc er f b ram ram' p u m = rw (sym u, sym m) (ap (λ (e : Effect). stepped e ram') (kept_stored p er pc f f))
 
 -- the read noted, and behind it the write
-pub noted_given : (t t₁ t₂ pc a : ℕ) (er : List ℕ) (f : Condition) (p : Put) → t₁ ≡ noted t (touch_of false Byte a) → t₂ ≡ put_noted p t₁ (touch_of true Byte a)
-    → (kept_of p f f).outcome ≡ Done → t₂ ≡ trail_of (lent er pc f) t (touch Load Byte (Abs24 a) ∷ touch Store Byte (Abs24 a) ∷ [])
+pub noted_given : (t t₁ t₂ pc a : ℕ) (er : List ℕ) (f : Condition) (p : Result (Unit {0}) Refusal) → t₁ ≡ noted t (touch_of false Byte a) → t₂ ≡ call_noted p t₁ (touch_of true Byte a)
+    → (kept_of p f f).outcome ≡ Ok tt → t₂ ≡ trail_of (lent er pc f) t (touch Load Byte (Abs24 a) ∷ touch Store Byte (Abs24 a) ∷ [])
 unfolding address_of step_over
 noted_given t t₁ t₂ pc a er f p h k o = rw h at (noted_kept t₁ t₂ (touch_of true Byte a) p f f k o)

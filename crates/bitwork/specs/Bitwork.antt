@@ -1,12 +1,11 @@
 -- The bit instructions in registers and memory (document 02, W4; manual 002, their pages of section 2.2). PC is none of theirs.
-use Rattle.std.specs.Prelude.{ℕ, ◌%◌, List}
+use Rattle.std.specs.Prelude.{ℕ, ◌%◌, List, Result, Ok, Err}
+use Rattle.refusal.specs.declared.Refusal.{Refusal}
 use Rattle.arith.specs.declared.Width.TheVariants.{Byte}
 use Rattle.registers.specs.declared.Registers.{Registers}
 use Rattle.registers.specs.Parts.{part_of, with_part, with_condition}
 use Rattle.memory.specs.Access.{read_of, write_of}
 use Rattle.memory.specs.declared.Board.{Board}
-use Rattle.memory.specs.declared.Got.{Got}
-use Rattle.memory.specs.declared.Got.TheVariants.{Value, NotRead}
 use Rattle.operate.specs.Results.{Effect, did, refused}
 use Rattle.moves.specs.Moves.{Stepped, stepped, address_of, stored_of}
 use Rattle.bits.specs.Bits.{bit_of, with_bit}
@@ -35,19 +34,19 @@ gave_of give index x r =
     with_bit n x (given_of give (bit_of n x) r.condition.c)
 
 -- in memory, by what the read of the byte found
-unfoldable pub took_from : Got → Take → Index → Registers → Effect
-took_from (Value x) take index r = did (took_of take index x r)
-took_from (NotRead f) take index r = refused r f
+unfoldable pub took_from : Result ℕ Refusal → Take → Index → Registers → Effect
+took_from (Ok x) take index r = did (took_of take index x r)
+took_from (Err f) take index r = refused r f
 
 unfoldable pub takes_at : Take → Index → ℕ → Registers → Board → List ℕ → List ℕ → Effect
 takes_at take index a r b rom ram = took_from (read_of Byte b rom ram a) take index r
 
 -- a writer reads its byte first, so that 5 is looked for before 6
-unfoldable pub gave_to : Got → Give → Index → ℕ → Registers → Board → List ℕ → Stepped
-gave_to (Value x) give index a r b ram =
+unfoldable pub gave_to : Result ℕ Refusal → Give → Index → ℕ → Registers → Board → List ℕ → Stepped
+gave_to (Ok x) give index a r b ram =
     let m = write_of Byte b ram a (gave_of give index x r) in
     stepped (stored_of m.put r r) m.mem
-gave_to (NotRead f) give index a r b ram = stepped (refused r f) ram
+gave_to (Err f) give index a r b ram = stepped (refused r f) ram
 
 unfoldable pub gives_at : Give → Index → ℕ → Registers → Board → List ℕ → List ℕ → Stepped
 gives_at give index a r b rom ram = gave_to (read_of Byte b rom ram a) give index a r b ram

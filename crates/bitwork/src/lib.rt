@@ -15,7 +15,7 @@ ghost use Rattle.bitwork.specs.MirrorBitwork.{Numbers, Took, Gave};
 
 use arith::Width;
 use codes::{Give, Index, Take};
-use memory::{Board, Got};
+use memory::Board;
 use operate::Deed;
 use registers::Condition;
 
@@ -77,8 +77,8 @@ pub fn take_at(
     ensures told { Notes (touch Load Byte (Abs24 a) ∷ []) er.now f result trail.old trail.new }
 {
     match memory::read(Width::Byte, b, rom, ram, a, trail) {
-        Got::Value(x) => operate::did(took(take, index, x, er, f)),
-        Got::NotRead(x) => operate::refused(f, x),
+        Ok(x) => operate::did(took(take, index, x, er, f)),
+        Err(x) => operate::refused(f, x),
     }
 }
 
@@ -98,10 +98,10 @@ pub fn give_at(
     ensures told { Notes (touch Load Byte (Abs24 a) ∷ touch Store Byte (Abs24 a) ∷ []) er.now f result trail.old trail.new }
 {
     match memory::read(Width::Byte, b, rom, &ram[..], a, trail) {
-        Got::Value(x) => {
+        Ok(x) => {
             let y = gave(give, index, x, er, f);
             moves::kept(memory::write(Width::Byte, b, ram, a, y, trail), f, f)
         }
-        Got::NotRead(x) => operate::refused(f, x),
+        Err(x) => operate::refused(f, x),
     }
 }

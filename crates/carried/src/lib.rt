@@ -3,7 +3,6 @@
 
 ghost use Rattle.std.specs.Prelude.{◌≡◌, [], ◌∷◌, ◌/◌, ◌%◌, ◌^◌};
 ghost use Rattle.std.proofs.lemmas.List.Edits.{sets};
-ghost use Rattle.replay.specs.Replay.{nothing};
 ghost use Rattle.carried.specs.Carried.{field_at, refusal_at, report_at, stage_at, part_of, report_of, standing_of, report_numbers, stage_numbers, numbers_of};
 
 use layout::lent;
@@ -13,6 +12,7 @@ use replay::{Field, Part, Report, Stage, Standing};
 // How many numbers; `replay_length` in the definitions, H8_REPLAY in host/h8.h.
 pub const REPLAY: usize = 24;
 
+// Here a number past the last choice is the last (`standing_of` says so of each), so there is no error to answer and no TryFrom.
 fn field_at(n: u32) -> Field
     ensures { result ≡ field_at n }
 {
@@ -143,24 +143,12 @@ fn put_report(l: &mut [u32], t: Report)
     }
 }
 
-fn none() -> Part
-    ensures { result ≡ nothing }
-{
-    Part {
-        count: 0,
-        size: 0,
-        pc: 0,
-        condition: 0,
-        states: 0,
-    }
-}
-
 fn put_stage(l: &mut [u32], g: Stage)
     ensures { l.new ≡ sets l.old 13 (stage_numbers g) }
 {
     match g {
         Stage::Version => {
-            put_read(l, 0, none());
+            put_read(l, 0, Part::none());
             put_told(l, 0, 0, 0, 0, 0)
         }
         Stage::Records(p) => {
@@ -168,11 +156,11 @@ fn put_stage(l: &mut [u32], g: Stage)
             put_told(l, 0, 0, 0, 0, 0)
         }
         Stage::Told(t) => {
-            put_read(l, 2, none());
+            put_read(l, 2, Part::none());
             put_report(l, t)
         }
         Stage::Closed => {
-            put_read(l, 3, none());
+            put_read(l, 3, Part::none());
             put_told(l, 0, 0, 0, 0, 0)
         }
     }

@@ -4,3 +4,4 @@ pub mod Valid
 pub mod States
 pub mod Cycles
 pub mod Exact
+pub mod Choices

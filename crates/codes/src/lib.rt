@@ -3,14 +3,16 @@
 
 ghost use Rattle.std.specs.Borrow.{Bor};
 ghost use Rattle.std.specs.Prelude.{◌≡◌};
-ghost use Rattle.codes.specs.States.{long_states, reg_states, imm_states, alu_states, short_move_states, long_move_states, move_states, bcc_states, jmp_states, bsr_states, jsr_states, unsigned_states, signed_states, product_states, read_bit_states, written_bit_states, states_of};
+ghost use Rattle.codes.specs.declared.Instruction.TheVariants.{Takes, Gives};
+ghost use Rattle.codes.specs.States.{long_states, reg_states, imm_states, alu_states, short_move_states, long_move_states, move_states, bcc_states, jmp_states, bsr_states, jsr_states, product_states, read_bit_states, written_bit_states, states_of};
 
 use arith::Width;
 use products::Half;
-use refusal::Refusal;
+
+mod choices;
 
 // ADD to AND, with a register or the code itself as the source.
-#[derive(Clone, Copy)]
+#[derive(Clone, Copy, Debug, PartialEq, Eq)]
 pub enum Op {
     Add,
     Sub,
@@ -23,27 +25,27 @@ pub enum Op {
     And,
 }
 
-#[derive(Clone, Copy)]
+#[derive(Clone, Copy, Debug, PartialEq, Eq)]
 pub enum Source {
     Reg(u8),
     Imm(u32),
 }
 
 // INC or DEC, ADDS or SUBS, DAA or DAS.
-#[derive(Clone, Copy)]
+#[derive(Clone, Copy, Debug, PartialEq, Eq)]
 pub enum Way {
     Up,
     Down,
 }
 
-#[derive(Clone, Copy)]
+#[derive(Clone, Copy, Debug, PartialEq, Eq)]
 pub enum By {
     One,
     Two,
     Four,
 }
 
-#[derive(Clone, Copy)]
+#[derive(Clone, Copy, Debug, PartialEq, Eq)]
 pub enum Turn {
     Shll,
     Shlr,
@@ -55,7 +57,7 @@ pub enum Turn {
     Rotr,
 }
 
-#[derive(Clone, Copy)]
+#[derive(Clone, Copy, Debug, PartialEq, Eq)]
 pub enum Single {
     Not,
     Neg,
@@ -64,14 +66,14 @@ pub enum Single {
 }
 
 // MULXU and DIVXU, or MULXS and DIVXS.
-#[derive(Clone, Copy)]
+#[derive(Clone, Copy, Debug, PartialEq, Eq)]
 pub enum Sign {
     Unsigned,
     Signed,
 }
 
 // A bit instruction that reads its bit: BTST sets Z by it, the others C.
-#[derive(Clone, Copy)]
+#[derive(Clone, Copy, Debug, PartialEq, Eq)]
 pub enum Take {
     Btst,
     Bor,
@@ -85,7 +87,7 @@ pub enum Take {
 }
 
 // One that writes its bit.
-#[derive(Clone, Copy)]
+#[derive(Clone, Copy, Debug, PartialEq, Eq)]
 pub enum Give {
     Bset,
     Bnot,
@@ -94,15 +96,43 @@ pub enum Give {
     Bist,
 }
 
+// What a bit instruction does with its bit, `Take` or `Give`: with the bit's number and its byte it is the instruction.
+pub trait Bit: Copy {
+    ghost use Rattle.codes.specs.declared.Index.{Index};
+    ghost use Rattle.codes.specs.declared.Spot.{Spot};
+    ghost use Rattle.codes.specs.declared.Instruction.{Instruction};
+
+    ghost instruction: { Self → Index → Spot → Instruction };
+
+    fn at(self, index: Index, spot: Spot) -> Instruction
+        ensures { result ≡ instruction self index spot };
+}
+
+impl Bit for Take {
+    ghost instruction = { Takes };
+
+    fn at(self, index: Index, spot: Spot) -> Instruction {
+        Instruction::Takes(self, index, spot)
+    }
+}
+
+impl Bit for Give {
+    ghost instruction = { Gives };
+
+    fn at(self, index: Index, spot: Spot) -> Instruction {
+        Instruction::Gives(self, index, spot)
+    }
+}
+
 // A bit's number: in the code, or in a byte register.
-#[derive(Clone, Copy)]
+#[derive(Clone, Copy, Debug, PartialEq, Eq)]
 pub enum Index {
     Numbered(u8),
     ByPart(u8),
 }
 
 // The byte that a bit is in: a byte register, or memory at @ER or aa:8.
-#[derive(Clone, Copy)]
+#[derive(Clone, Copy, Debug, PartialEq, Eq)]
 pub enum Spot {
     InPart(u8),
     AtEr(u8),
@@ -110,7 +140,7 @@ pub enum Spot {
 }
 
 // What is done to the condition byte with an immediate byte.
-#[derive(Clone, Copy)]
+#[derive(Clone, Copy, Debug, PartialEq, Eq)]
 pub enum Change {
     Orc,
     Xorc,
@@ -118,14 +148,14 @@ pub enum Change {
     Ldc,
 }
 
-#[derive(Clone, Copy)]
+#[derive(Clone, Copy, Debug, PartialEq, Eq)]
 pub enum Dir {
     Load,
     Store,
 }
 
 // An operand in memory: @ER; @ER+ of a load and @-ER of a store; @(d:16,ER); aa:8, aa:16 and aa:24.
-#[derive(Clone, Copy)]
+#[derive(Clone, Copy, Debug, PartialEq, Eq)]
 pub enum Place {
     At(u8),
     Step(u8),
@@ -136,21 +166,21 @@ pub enum Place {
 }
 
 // A displacement of a branch, by its bits: d:8 or d:16.
-#[derive(Clone, Copy)]
+#[derive(Clone, Copy, Debug, PartialEq, Eq)]
 pub enum Reach {
     Near(u8),
     Far(u16),
 }
 
 // Where JMP and JSR go: @ER, aa:24, @@aa:8.
-#[derive(Clone, Copy)]
+#[derive(Clone, Copy, Debug, PartialEq, Eq)]
 pub enum Target {
     ByReg(u8),
     Direct(u32),
     Vector(u8),
 }
 
-#[derive(Clone, Copy)]
+#[derive(Clone, Copy, Debug, PartialEq, Eq)]
 pub enum Instruction {
     Nop,
     // STC CCR,Rd and LDC Rs,CCR
@@ -178,7 +208,7 @@ pub enum Instruction {
 }
 
 // Where an instruction lets PC go, apart from what it does.
-#[derive(Clone, Copy)]
+#[derive(Clone, Copy, Debug, PartialEq, Eq)]
 pub enum Goes {
     Onward,
     Branches(u8, Reach),
@@ -188,33 +218,12 @@ pub enum Goes {
     Returns,
 }
 
-// What bytes begin with: an instruction and its length, or refusal 3, 4 or 15.
-#[derive(Clone, Copy)]
-pub enum Decoded {
-    Code(Instruction, usize),
-    NoCode(Refusal),
-}
-
-// What encoding did: it wrote so many bytes, or refusal 11 or 13.
-#[derive(Clone, Copy)]
-pub enum Encoded {
-    Written(usize),
-    NotWritten(Refusal),
-}
-
 fn long_states(op: Op) -> u32
     ensures { result ≡ long_states op }
 {
     match op {
-        Op::Add => 2,
-        Op::Sub => 2,
-        Op::Cmp => 2,
-        Op::Mov => 2,
-        Op::Addx => 2,
-        Op::Subx => 2,
-        Op::Or => 4,
-        Op::Xor => 4,
-        Op::And => 4,
+        Op::Add | Op::Sub | Op::Cmp | Op::Mov | Op::Addx | Op::Subx => 2,
+        Op::Or | Op::Xor | Op::And => 4,
     }
 }
 
@@ -222,8 +231,7 @@ fn reg_states(op: Op, w: Width) -> u32
     ensures { result ≡ reg_states op w }
 {
     match w {
-        Width::Byte => 2,
-        Width::Word => 2,
+        Width::Byte | Width::Word => 2,
         Width::Long => long_states(op),
     }
 }
@@ -251,11 +259,8 @@ fn short_move_states(p: Place) -> u32
     ensures { result ≡ short_move_states p }
 {
     match p {
-        Place::At(_) => 4,
-        Place::Abs8(_) => 4,
-        Place::Step(_) => 6,
-        Place::Disp(_, _) => 6,
-        Place::Abs16(_) => 6,
+        Place::At(_) | Place::Abs8(_) => 4,
+        Place::Step(_) | Place::Disp(_, _) | Place::Abs16(_) => 6,
         Place::Abs24(_) => 8,
     }
 }
@@ -264,11 +269,8 @@ fn long_move_states(p: Place) -> u32
     ensures { result ≡ long_move_states p }
 {
     match p {
-        Place::At(_) => 8,
-        Place::Abs8(_) => 8,
-        Place::Step(_) => 10,
-        Place::Disp(_, _) => 10,
-        Place::Abs16(_) => 10,
+        Place::At(_) | Place::Abs8(_) => 8,
+        Place::Step(_) | Place::Disp(_, _) | Place::Abs16(_) => 10,
         Place::Abs24(_) => 12,
     }
 }
@@ -277,8 +279,7 @@ pub fn move_states(w: Width, p: Place) -> u32
     ensures { result ≡ move_states w p }
 {
     match w {
-        Width::Byte => short_move_states(p),
-        Width::Word => short_move_states(p),
+        Width::Byte | Width::Word => short_move_states(p),
         Width::Long => long_move_states(p),
     }
 }
@@ -321,30 +322,14 @@ pub fn jsr_states(target: Target) -> u32
     }
 }
 
-fn unsigned_states(h: Half) -> u32
-    ensures { result ≡ unsigned_states h }
-{
-    match h {
-        Half::Eight => 14,
-        Half::Sixteen => 22,
-    }
-}
-
-fn signed_states(h: Half) -> u32
-    ensures { result ≡ signed_states h }
-{
-    match h {
-        Half::Eight => 16,
-        Half::Sixteen => 24,
-    }
-}
-
 pub fn product_states(sign: Sign, h: Half) -> u32
     ensures { result ≡ product_states sign h }
 {
-    match sign {
-        Sign::Unsigned => unsigned_states(h),
-        Sign::Signed => signed_states(h),
+    match (sign, h) {
+        (Sign::Unsigned, Half::Eight) => 14,
+        (Sign::Unsigned, Half::Sixteen) => 22,
+        (Sign::Signed, Half::Eight) => 16,
+        (Sign::Signed, Half::Sixteen) => 24,
     }
 }
 
@@ -353,8 +338,7 @@ pub fn read_bit_states(spot: Spot) -> u32
 {
     match spot {
         Spot::InPart(_) => 2,
-        Spot::AtEr(_) => 6,
-        Spot::AtAbs(_) => 6,
+        Spot::AtEr(_) | Spot::AtAbs(_) => 6,
     }
 }
 
@@ -363,8 +347,7 @@ pub fn written_bit_states(spot: Spot) -> u32
 {
     match spot {
         Spot::InPart(_) => 2,
-        Spot::AtEr(_) => 8,
-        Spot::AtAbs(_) => 8,
+        Spot::AtEr(_) | Spot::AtAbs(_) => 8,
     }
 }
 
@@ -374,8 +357,9 @@ pub fn states(i: Instruction) -> u32
 {
     match i {
         Instruction::Alu(op, w, source, _) => alu_states(op, w, source),
-        Instruction::Multiply(sign, h, _, _) => product_states(sign, h),
-        Instruction::Divide(sign, h, _, _) => product_states(sign, h),
+        Instruction::Multiply(sign, h, _, _) | Instruction::Divide(sign, h, _, _) => product_states(
+            sign, h,
+        ),
         Instruction::Takes(_, _, spot) => read_bit_states(spot),
         Instruction::Gives(_, _, spot) => written_bit_states(spot),
         Instruction::Move(_, w, p, _) => move_states(w, p),

@@ -1,4 +1,5 @@
 -- What the plan of a word makes is an instruction, and its code is those bytes: a tree of the tests in the order of the mirror.
+use Rattle.std.specs.Prelude.{Option, Some, None}
 use Prim.Native.Nat.{ℕ, suc, zero-le, ◌+◌, ◌-◌, ◌*◌, ◌/◌, ◌%◌, ◌≤◌, ◌<◌}
 use mathlib.Core.Path.{◌≡◌, refl, sym, ap, ap₂, ◌∙◌, subst}
 use mathlib.Core.Bool.{Bool, true, false}
@@ -11,7 +12,7 @@ use Rattle.decoder.specs.Names.{Width, Byte, Word, Long, Op, Add, Sub, Cmp, Mov,
 use Rattle.decoder.specs.Names.{Shlr, Rotxl, Rotxr, Shal, Shar, Rotl, Rotr, Not, Neg, Extu, Exts, Half, Eight, Sixteen, Unsigned, Signed, Dir, Load, Store, Place, At, Step, Disp, Abs16}
 use Rattle.decoder.specs.Names.{Spot, InPart, AtEr, AtAbs}
 use Rattle.decoder.specs.Names.{Abs24, ByReg, Instruction, Alu, IncDec, AddsSubs, Shift, Unary, Multiply, Divide, Move, Jmp, Jsr, Rest, Plan, Whole, Lacks}
-use Rattle.decoder.specs.Names.{Nothing, Mode, Plain, Stepping, Displaced, Absolute, Tail, Bits16, Bits24, Bits32}
+use Rattle.decoder.specs.Names.{Mode, Plain, Stepping, Displaced, Absolute, Tail, Bits16, Bits24, Bits32}
 use Rattle.codes.specs.Code.{◌·◌, be16, be24, way_digit, digit013, digit89_b, spot_code, first_digit, next_digit, dir_digit, code_of}
 use Rattle.products.specs.Products.{factor_width, product_width}
 use Rattle.codes.specs.Valid.{Digit, HasReg, HasImm, HasSpot, HasPlace, Valid}
@@ -40,10 +41,10 @@ GoodTail Bits16 pre a b q = Good2 pre a b q
 GoodTail Bits24 pre a b q = Good3 pre a b q
 GoodTail Bits32 pre a b q = Good4 pre a b q
 
-abbrev pub Good : List ℕ → ℕ → ℕ → Plan → Type 0
-Good pre a b (Whole i) = Codes pre a b i []
-Good pre a b (Lacks q) = GoodTail (tail_of_rest q) pre a b q
-Good pre a b Nothing = Unit {0}
+abbrev pub Good : List ℕ → ℕ → ℕ → Option Plan → Type 0
+Good pre a b (Some (Whole i)) = Codes pre a b i []
+Good pre a b (Some (Lacks q)) = GoodTail (tail_of_rest q) pre a b q
+Good pre a b None = Unit {0}
 
 -- ---- a test splits the proof
 
@@ -83,7 +84,7 @@ six≡ pre p q r s t = λ i. pre ++ (p i ∷ q i ∷ 0 ∷ r i ∷ s i ∷ t i �
 -- MULXU to DIVXS, after pre: rs then rd, or rs then e
 product_good : (pre : List ℕ) (a b : ℕ) → b < 256 → (h : Half) (make : ℕ → ℕ → Instruction)
     → ((s d : ℕ) → Digit (factor_width h) s → Digit (product_width h) d → Valid (make s d)) → ((s d : ℕ) → code_of (make s d) ≡ pre ++ (a ∷ s · d ∷ []))
-    → Good pre a b (held (product_width h) (b % 16) (Whole (make (b / 16) (b % 16))))
+    → Good pre a b (held (product_width h) (b % 16) (Some (Whole (make (b / 16) (b % 16)))))
 product_good pre a b hb Eight make v f = (v (b / 16) (b % 16) (omega arith) (omega arith), f (b / 16) (b % 16) ∙ ap (λ x. pre ++ (a ∷ x ∷ [])) (omega arith))
 product_good pre a b hb Sixteen make v f =
     if< (Good pre a b) (b % 16) 8
@@ -126,14 +127,14 @@ module _ (pre : List ℕ) (c d : ℕ) (hd : d < 256) (spot : Spot) (hs : HasSpot
       if≡ (Good pre c d) c 0x72 (λ h. if< (Good pre c d) d 128 (low_word 0x7D f 0x72 h) (λ k. tt)) λ n72. tt
 
 module _ (a b : ℕ) (hb : b < 256) where
-  short_good : (d : ℕ) (i : Instruction) → (d < 8 → Codes [] a b i []) → Good [] a b (below d 8 (Whole i))
+  short_good : (d : ℕ) (i : Instruction) → (d < 8 → Codes [] a b i []) → Good [] a b (below d 8 (Some (Whole i)))
   short_good d i f = if< (Good [] a b) d 8 f (λ h. tt)
 
   -- e0
   e_zero_good : (make : ℕ → Instruction) → ((e : ℕ) → e < 8 → Valid (make e)) → ((e : ℕ) → code_of (make e) ≡ a ∷ e · 0 ∷ [])
-      → Good [] a b (e_zero b (Whole (make (b / 16))))
+      → Good [] a b (e_zero b (Some (Whole (make (b / 16)))))
   e_zero_good make v f =
-      if_e_zero (λ is. Good [] a b (pick is (Whole (make (b / 16))) Nothing)) b
+      if_e_zero (λ is. Good [] a b (pick is (Some (Whole (make (b / 16)))) None)) b
       (λ z e. (v (b / 16) e, f (b / 16) ∙ two≡ refl (omega arith))) tt
 
   inc_decs_good : (way : Way) → way_digit way · 0xB ≡ a → Good [] a b (inc_dec_of way b)
@@ -239,7 +240,7 @@ module _ (a b : ℕ) (hb : b < 256) where
 module _ (pre : List ℕ) (w : Width) (a b : ℕ) (hb : b < 256) (hd : Digit w (b % 16)) where
   -- @ER, and @ER+ with @-ER
   at_good : (m : ℕ → Place) → ((e : ℕ) → e < 8 → HasPlace w (m e)) → ((dir : Dir) (e r : ℕ) → code_of (Move dir w (m e) r) ≡ pre ++ (a ∷ (dir_digit dir + e) · r ∷ []))
-      → Good pre a b (pick (ltb b 128) (Whole (Move Load w (m (b / 16)) (b % 16))) (Whole (Move Store w (m (b / 16 - 8)) (b % 16))))
+      → Good pre a b (pick (ltb b 128) (Some (Whole (Move Load w (m (b / 16)) (b % 16)))) (Some (Whole (Move Store w (m (b / 16 - 8)) (b % 16)))))
   at_good m p f =
       if< (Good pre a b) b 128
       (λ h. ((p (b / 16) (omega arith), hd), f Load (b / 16) (b % 16) ∙ ap (λ x. pre ++ (a ∷ x ∷ [])) (omega arith)))
@@ -467,7 +468,7 @@ module _ (c d : ℕ) (hd : d < 256) where
         if≡ P a 0x7F (λ h. behind 0x7F h (writes_memory (AtAbs b) hb (λ byte n. four≡ [] (sym h) refl refl refl))) λ n7F. tt
       where
         P : Bool → Type 0
-        P named = Good (a ∷ b ∷ []) c d (pick named (exactly (d % 16) 0 (bit_word a c d (named_spot a b))) Nothing)
+        P named = Good (a ∷ b ∷ []) c d (pick named (exactly (d % 16) 0 (bit_word a c d (named_spot a b))) None)
 
         behind : (k : ℕ) → a ≡ k → Good (a ∷ b ∷ []) c d (exactly (d % 16) 0 (bit_word k c d (named_spot k b))) → P true
         behind k h g = subst (λ x. Good (a ∷ b ∷ []) c d (exactly (d % 16) 0 (bit_word x c d (named_spot x b)))) (sym h) g

@@ -1,4 +1,5 @@
 -- The code plans the words of the bytes before it knows that they are whole, with 0 for a byte that is missing. It finds the same.
+use Rattle.std.specs.Prelude.{Option, Result, Err}
 use Prim.Native.Nat.{ℕ, ◌<◌, ◌≤◌}
 use mathlib.Core.Bool.{Bool, true, false}
 use mathlib.Core.Path.{◌≡◌, refl, sym, ap, subst, ◌∙◌}
@@ -7,15 +8,15 @@ use native.Mathlib.Omega.{arith}
 use lib.Dec.{ltb}
 use lib.ListN.{length, get_or, drop}
 use borrow.Author.Tests.{lt-ltb, le-ltb}
-use Rattle.decoder.specs.Names.{Plan, Found}
+use Rattle.decoder.specs.Names.{Instruction, Plan, Fault}
 use Rattle.decoder.specs.MirrorDecode.{finish_of, found_of, two_words, short_of, lead_of, planned_of}
 use Rattle.decoder.specs.MirrorWords.{pick}
 use Rattle.decoder.proofs.Complete.{word_only, two_words_lem, word_second}
 
 -- as the code finds it
-abbrev planned_first : List ℕ → Found
+abbrev planned_first : List ℕ → Result (Instruction × ℕ) Fault
 planned_first s =
-    pick (ltb (length s) (lead_of (get_or s 0 0))) (short_of (planned_of s) s)
+    pick (ltb (length s) (lead_of (get_or s 0 0))) (Err (short_of (planned_of s) s))
     (finish_of (planned_of s) (drop (lead_of (get_or s 0 0)) s) (lead_of (get_or s 0 0)))
 
 -- a byte that begins two words, and what follows it
@@ -40,10 +41,10 @@ planned_first_lem (a ∷ s) = go (two_words a) refl
     go false n = after_other a n s
 
 -- what the code has in hand: the first byte, how many bytes the words have, and their plan
-module _ (s : List ℕ) {a n : ℕ} {p : Plan} (first : a ≡ get_or s 0 0) (lead : n ≡ lead_of a) (plan : p ≡ planned_of s) where
-  pub too_few : length s < n → short_of p s ≡ found_of s
+module _ (s : List ℕ) {a n : ℕ} {p : Option Plan} (first : a ≡ get_or s 0 0) (lead : n ≡ lead_of a) (plan : p ≡ planned_of s) where
+  pub too_few : length s < n → Err (short_of p s) ≡ found_of s
   too_few h =
-      ap (λ q. short_of q s) plan
+      ap (λ q. Err (short_of q s)) plan
       ∙ sym (planned_first_lem s ∙ rw (lt-ltb (length s) (lead_of (get_or s 0 0)) (subst (λ k. length s < k) (lead ∙ ap lead_of first) h)))
 
   pub enough : n ≤ length s → finish_of p (drop n s) n ≡ found_of s

@@ -1,4 +1,5 @@
 -- The shape of each code: its first byte starts a code, and the plan of its words with the bytes that follow makes its instruction.
+use Rattle.std.specs.Prelude.{Option, Some, None}
 use Prim.Native.Nat.{ℕ, ◌+◌, ◌-◌, ◌*◌, ◌/◌, ◌%◌, ◌≤◌, ◌<◌}
 use mathlib.Core.Path.{◌≡◌, refl, ap, ap₂, ◌∙◌}
 use mathlib.Core.Bool.{true, false}
@@ -13,13 +14,13 @@ use Rattle.decoder.specs.Names.{Four, Turn, Shll, Shlr, Rotxl, Rotxr, Shal, Shar
 use Rattle.decoder.specs.Names.{Take, Btst, Bor, Bior, Bxor, Bixor, Band, Biand, Bld, Bild, Give, Bset, Bnot, Bclr, Bst, Bist, Index, Numbered, ByPart, Spot, InPart, AtEr, AtAbs, Takes, Gives}
 use Rattle.decoder.specs.Names.{Andc, Ldc, Dir, Load, Store, Place, At, Step, Disp, Abs8, Abs16, Abs24, Reach, Near, Far, Target, ByReg, Direct}
 use Rattle.decoder.specs.Names.{Vector, Instruction, Nop, Stc, LdcReg, Ccr, Alu, IncDec, AddsSubs, Decimal, Shift, Unary, Multiply, Divide, Move, Bcc, Jmp, Bsr}
-use Rattle.decoder.specs.Names.{Jsr, Rts, Rest, Imm16, Imm32, Disp16, Aa16, Aa24, Bcc16, Bsr16, Jmp24, Jsr24, Plan, Whole, Lacks, Nothing, Mode}
+use Rattle.decoder.specs.Names.{Jsr, Rts, Rest, Imm16, Imm32, Disp16, Aa16, Aa24, Bcc16, Bsr16, Jmp24, Jsr24, Plan, Whole, Lacks, Mode}
 use Rattle.decoder.specs.Names.{Plain, Stepping, Displaced, Absolute, Bits16, Bits24, Bits32, Cut, Unlisted}
 use Rattle.codes.specs.Code.{code_of, ◌·◌, dir_digit, digit013, digit89_b, spot_code, be16, be24, be32}
 use Rattle.codes.specs.Valid.{Valid, Digit, HasSpot}
 use Rattle.products.specs.Products.{product_width}
 use Rattle.decoder.specs.MirrorWords.{pick, exactly, below, held, reg_reg, long_reg, inc_decs, shifts, shift_of, unaries, bcc_digit, move_of, memory_of, next_op, plans, plan_of}
-use Rattle.decoder.specs.MirrorWords.{long_memory, long_logic, is_ezero, e_zero, take_either, give_numbered, give_by_part, reads_of, writes_of, after_of}
+use Rattle.decoder.specs.MirrorWords.{long_memory, long_logic, is_ezero, e_zero, either, numbered, by_part, reads_of, writes_of, after_of}
 use Rattle.decoder.specs.MirrorDecode.{tail_of_rest, fill_of, begun_of, two_words, starts_of, prefix_of}
 
 -- ---- digits and tests
@@ -27,27 +28,27 @@ use Rattle.decoder.specs.MirrorDecode.{tail_of_rest, fill_of, begun_of, two_word
 digits : {A : Type 0} (f : ℕ → ℕ → A) (h : ℕ) {d : ℕ} → d < 16 → f ((h * 16 + d) / 16) ((h * 16 + d) % 16) ≡ f h d
 digits f h k = ap₂ f (digits_div h k) (digits_mod h k)
 
-short : {p : Plan} {d : ℕ} → d < 8 → below d 8 p ≡ p
+short : {p : Option Plan} {d : ℕ} → d < 8 → below d 8 p ≡ p
 short {d = d} h = rw (lt-ltb d 8 h)
 
 -- a test that holds
-taken : {x k : ℕ} {p : Plan} → x ≡ k → exactly x k p ≡ p
+taken : {x k : ℕ} {p : Option Plan} → x ≡ k → exactly x k p ≡ p
 taken {x} {k} e = rw (eq-eqb x k e)
 
 -- e0
-at_e_zero : (f : ℕ → Plan) (e : ℕ) → e < 8 → e_zero (e · 0) (f ((e · 0) / 16)) ≡ f e
-at_e_zero f e h = digits (λ x y. pick (pick (eqb y 0) (ltb x 8) false) (f x) Nothing) e (omega arith) ∙ short h
+at_e_zero : (f : ℕ → Option Plan) (e : ℕ) → e < 8 → e_zero (e · 0) (f ((e · 0) / 16)) ≡ f e
+at_e_zero f e h = digits (λ x y. pick (pick (eqb y 0) (ltb x 8) false) (f x) None) e (omega arith) ∙ short h
 
 cut_e_zero : (e : ℕ) → e < 8 → pick (is_ezero (e · 0)) Cut Unlisted ≡ Cut
 cut_e_zero e h = digits (λ x y. pick (pick (eqb y 0) (ltb x 8) false) Cut Unlisted) e (omega arith) ∙ rw (lt-ltb e 8 h)
 
 -- ---- what a plan makes of the bytes that follow
 
-pub data Ends (p : Plan) (i : Instruction) : List ℕ → Type 0 where
-  all : p ≡ Whole i → Ends p i []
-  two : (q : Rest) {x y : ℕ} → p ≡ Lacks q → tail_of_rest q ≡ Bits16 → fill_of q (x * 256 + y) ≡ i → Ends p i (x ∷ y ∷ [])
-  zero_three : (q : Rest) {y z w : ℕ} → p ≡ Lacks q → tail_of_rest q ≡ Bits24 → fill_of q (0 * 16777216 + y * 65536 + z * 256 + w) ≡ i → Ends p i (0 ∷ y ∷ z ∷ w ∷ [])
-  four : (q : Rest) {x y z w : ℕ} → p ≡ Lacks q → tail_of_rest q ≡ Bits32 → fill_of q (x * 16777216 + y * 65536 + z * 256 + w) ≡ i → Ends p i (x ∷ y ∷ z ∷ w ∷ [])
+pub data Ends (p : Option Plan) (i : Instruction) : List ℕ → Type 0 where
+  all : p ≡ Some (Whole i) → Ends p i []
+  two : (q : Rest) {x y : ℕ} → p ≡ Some (Lacks q) → tail_of_rest q ≡ Bits16 → fill_of q (x * 256 + y) ≡ i → Ends p i (x ∷ y ∷ [])
+  zero_three : (q : Rest) {y z w : ℕ} → p ≡ Some (Lacks q) → tail_of_rest q ≡ Bits24 → fill_of q (0 * 16777216 + y * 65536 + z * 256 + w) ≡ i → Ends p i (0 ∷ y ∷ z ∷ w ∷ [])
+  four : (q : Rest) {x y z w : ℕ} → p ≡ Some (Lacks q) → tail_of_rest q ≡ Bits32 → fill_of q (x * 16777216 + y * 65536 + z * 256 + w) ≡ i → Ends p i (x ∷ y ∷ z ∷ w ∷ [])
 
 pub data Shape (i : Instruction) : List ℕ → Type 0 where
   plain : {a b : ℕ} {t : List ℕ} → two_words a ≡ false → starts_of a ≡ Cut → Ends (plan_of a b) i t → Shape i (a ∷ b ∷ t)
@@ -55,13 +56,13 @@ pub data Shape (i : Instruction) : List ℕ → Type 0 where
       → Shape i (a ∷ b ∷ c ∷ d ∷ t)
 
 -- a code of one word whose first byte is a numeral
-one : {a b : ℕ} {i : Instruction} → two_words a ≡ false → starts_of a ≡ Cut → plan_of a b ≡ Whole i → Shape i (a ∷ b ∷ [])
+one : {a b : ℕ} {i : Instruction} → two_words a ≡ false → starts_of a ≡ Cut → plan_of a b ≡ Some (Whole i) → Shape i (a ∷ b ∷ [])
 one n s e = plain n s (all e)
 
 -- register to register
 regs : {op : Op} {w : Width} {a : ℕ} → two_words a ≡ false → starts_of a ≡ Cut → ((b : ℕ) → plan_of a b ≡ reg_reg op w b)
     → (s d : ℕ) → d < 16 → Shape (Alu op w (Reg s) d) (a ∷ s · d ∷ [])
-regs {op} {w} n st f s d h = one n st (f (s · d) ∙ digits (λ x y. Whole (Alu op w (Reg x) y)) s h)
+regs {op} {w} n st f s d h = one n st (f (s · d) ∙ digits (λ x y. Some (Whole (Alu op w (Reg x) y))) s h)
 
 -- (8+e)e
 longs : {op : Op} {a : ℕ} → two_words a ≡ false → starts_of a ≡ Cut → ((b : ℕ) → 16 ≤ b → plan_of a b ≡ long_reg op b)
@@ -70,9 +71,9 @@ longs {op} n st f s d hs hd =
     one n st
     (f ((8 + s) · d) (omega arith)
     ∙ rw (le-ltb ((8 + s) · d) 128 (omega arith))
-    (digits (λ x y. below y 8 (Whole (Alu op Long (Reg (x - 8)) y))) (8 + s) (omega arith)
+    (digits (λ x y. below y 8 (Some (Whole (Alu op Long (Reg (x - 8)) y)))) (8 + s) (omega arith)
     ∙ short hd
-    ∙ ap (λ x. Whole (Alu op Long (Reg x) d)) (add-sub_cancel_left 8 s)))
+    ∙ ap (λ x. Some (Whole (Alu op Long (Reg x) d))) (add-sub_cancel_left 8 s)))
 
 -- a first byte that is a digit and a register
 first : (h b : ℕ) {d : ℕ} → d < 16 → plan_of (h · d) b ≡ plans h d b
@@ -89,7 +90,7 @@ one_word h d k n0 n7 = rw (
 )
 
 by_first : (h : ℕ) {d b : ℕ} {i : Instruction} → d < 16 → (h ≡ 0 → ⊥) → (h ≡ 5 → ⊥) → (h ≡ 7 → ⊥) → begun_of (plans h d 0) ≡ Cut
-    → plans h d b ≡ Whole i → Shape i (h · d ∷ b ∷ [])
+    → plans h d b ≡ Some (Whole i) → Shape i (h · d ∷ b ∷ [])
 by_first h {d} {b} k n0 n5 n7 s e =
     plain {a = h · d} (one_word h d k n0 n7)
     (rw (one_word h d k n0 n7, ne_eqb (h · d) 0x54 (λ z. n5 (omega arith))) (ap begun_of (first h 0 k) ∙ s))
@@ -107,13 +108,13 @@ at_memory w mode Store e r he hr =
 
 at_long : (mode : Mode) (dir : Dir) (e r : ℕ) → e < 8 → r < 8 → long_memory mode ((dir_digit dir + e) · r) ≡ move_of Long mode dir e r
 at_long mode dir e r he hr =
-    ap (λ x. pick (ltb x 8) (memory_of Long mode ((dir_digit dir + e) · r)) Nothing) (digits_mod (dir_digit dir + e) (omega arith))
+    ap (λ x. pick (ltb x 8) (memory_of Long mode ((dir_digit dir + e) · r)) None) (digits_mod (dir_digit dir + e) (omega arith))
     ∙ rw (lt-ltb r 8 hr) (at_memory Long mode dir e r he (omega arith))
 
-at_logic : (op : Op) (s d : ℕ) → s < 8 → d < 8 → long_logic op (s · d) ≡ Whole (Alu op Long (Reg s) d)
+at_logic : (op : Op) (s d : ℕ) → s < 8 → d < 8 → long_logic op (s · d) ≡ Some (Whole (Alu op Long (Reg s) d))
 at_logic op s d hs hd =
     rw (lt-ltb (s · d) 128 (omega arith))
-    (digits (λ x y. below y 8 (Whole (Alu op Long (Reg x) y))) s (omega arith) ∙ short hd)
+    (digits (λ x y. below y 8 (Some (Whole (Alu op Long (Reg x) y)))) s (omega arith) ∙ short hd)
 
 low16 : (v : ℕ) → v < 0x10000 → (v / 256 * 256 + v % 256) % 65536 ≡ v
 low16 v h = omega arith
@@ -163,7 +164,7 @@ reg_shape Xor Long s d v = long refl refl refl (all (at_logic Xor s d v.1 v.2))
 reg_shape And Long s d v = long refl refl refl (all (at_logic And s d v.1 v.2))
 
 -- an immediate byte: the first digit is 8 to F
-by_imm8 : {op : Op} (h : ℕ) {d v : ℕ} → 8 ≤ h → d < 16 → plans h d v ≡ Whole (Alu op Byte (Imm v) d) → begun_of (plans h d 0) ≡ Cut
+by_imm8 : {op : Op} (h : ℕ) {d v : ℕ} → 8 ≤ h → d < 16 → plans h d v ≡ Some (Whole (Alu op Byte (Imm v) d)) → begun_of (plans h d 0) ≡ Cut
     → Shape (Alu op Byte (Imm v) d) (h · d ∷ v ∷ [])
 by_imm8 h k hd e s = by_first h hd (omega arith) (omega arith) (omega arith) s e
 
@@ -172,7 +173,7 @@ by_imm16 : {op : Op} (h : ℕ) {d v : ℕ} → h < 7 → d < 16 → next_op h �
 by_imm16 {op} h {d} {v} k hd e =
     plain {a = 0x79} {b = h · d} refl refl
     (two (Imm16 op d)
-    (rw (lt-ltb (h · d) 0x70 (omega arith)) (digits (λ x y. Lacks (Imm16 (next_op x) y)) h hd ∙ ap (λ x. Lacks (Imm16 x d)) e))
+    (rw (lt-ltb (h · d) 0x70 (omega arith)) (digits (λ x y. Some (Lacks (Imm16 (next_op x) y))) h hd ∙ ap (λ x. Some (Lacks (Imm16 x d))) e))
     refl
     (ap (λ x. Alu op Word (Imm x) d) (whole16 v)))
 
@@ -181,7 +182,7 @@ by_imm32 {op} h {d} {v} k hd e =
     plain {a = 0x7A} {b = h · d} refl refl
     (four (Imm32 op d)
     (rw (lt-ltb (h · d) 0x70 (omega arith))
-    (digits (λ x y. below y 8 (Lacks (Imm32 (next_op x) y))) h (omega arith) ∙ short hd ∙ ap (λ x. Lacks (Imm32 x d)) e))
+    (digits (λ x y. below y 8 (Some (Lacks (Imm32 (next_op x) y)))) h (omega arith) ∙ short hd ∙ ap (λ x. Some (Lacks (Imm32 x d))) e))
     refl
     (ap (λ x. Alu op Long (Imm x) d) (whole32 v)))
 
@@ -215,13 +216,13 @@ imm_shape Addx Long v d k = absurd k.0
 imm_shape Subx Long v d k = absurd k.0
 
 -- a second byte of a digit and a register
-by_digits : (f : ℕ → ℕ → Plan) (h : ℕ) {a d : ℕ} {i : Instruction} → two_words a ≡ false → starts_of a ≡ Cut → ((b : ℕ) → plan_of a b ≡ f (b / 16) (b % 16))
-    → d < 16 → f h d ≡ Whole i → Shape i (a ∷ h · d ∷ [])
+by_digits : (f : ℕ → ℕ → Option Plan) (h : ℕ) {a d : ℕ} {i : Instruction} → two_words a ≡ false → starts_of a ≡ Cut → ((b : ℕ) → plan_of a b ≡ f (b / 16) (b % 16))
+    → d < 16 → f h d ≡ Some (Whole i) → Shape i (a ∷ h · d ∷ [])
 by_digits f h {d = d} n st g hd e = one n st (g (h · d) ∙ digits f h hd ∙ e)
 
 inc_dec_shape : (way : Way) (w : Width) (by : By) (r : ℕ) → Valid (IncDec way w by r) → Shape (IncDec way w by r) (code_of (IncDec way w by r))
-inc_dec_shape Up Byte One r v = one refl refl (rw (lt-ltb (0 · r) 16 (omega arith)) (ap (λ x. Whole (IncDec Up Byte One x)) (zero-add r)))
-inc_dec_shape Down Byte One r v = one refl refl (rw (lt-ltb (0 · r) 16 (omega arith)) (ap (λ x. Whole (IncDec Down Byte One x)) (zero-add r)))
+inc_dec_shape Up Byte One r v = one refl refl (rw (lt-ltb (0 · r) 16 (omega arith)) (ap (λ x. Some (Whole (IncDec Up Byte One x))) (zero-add r)))
+inc_dec_shape Down Byte One r v = one refl refl (rw (lt-ltb (0 · r) 16 (omega arith)) (ap (λ x. Some (Whole (IncDec Down Byte One x))) (zero-add r)))
 inc_dec_shape Up Byte Two r v = absurd v.0
 inc_dec_shape Down Byte Two r v = absurd v.0
 inc_dec_shape Up Byte Four r v = absurd v.0
@@ -248,8 +249,8 @@ adds_shape Up Four e v = by_digits (inc_decs Up) 9 refl refl (λ b. refl) (omega
 adds_shape Down Four e v = by_digits (inc_decs Down) 9 refl refl (λ b. refl) (omega arith) (short v)
 
 decimal_shape : (way : Way) (r : ℕ) → r < 16 → Shape (Decimal way r) (code_of (Decimal way r))
-decimal_shape Up r v = one refl refl (rw (lt-ltb (0 · r) 16 (omega arith)) (ap (λ x. Whole (Decimal Up x)) (zero-add r)))
-decimal_shape Down r v = one refl refl (rw (lt-ltb (0 · r) 16 (omega arith)) (ap (λ x. Whole (Decimal Down x)) (zero-add r)))
+decimal_shape Up r v = one refl refl (rw (lt-ltb (0 · r) 16 (omega arith)) (ap (λ x. Some (Whole (Decimal Up x))) (zero-add r)))
+decimal_shape Down r v = one refl refl (rw (lt-ltb (0 · r) 16 (omega arith)) (ap (λ x. Some (Whole (Decimal Down x))) (zero-add r)))
 
 -- a pair of shifts in one row
 turns : (t u : Turn) {a : ℕ} → two_words a ≡ false → starts_of a ≡ Cut → ((b : ℕ) → plan_of a b ≡ shift_of t u b) → (w : Width) (r : ℕ) → Digit w r
@@ -287,13 +288,13 @@ product_digit : (h : Half) (d : ℕ) → Digit (product_width h) d → d < 16
 product_digit Eight d v = v
 product_digit Sixteen d v = omega arith
 
-product_held : (h : Half) (d : ℕ) {p : Plan} → Digit (product_width h) d → held (product_width h) d p ≡ p
+product_held : (h : Half) (d : ℕ) {p : Option Plan} → Digit (product_width h) d → held (product_width h) d p ≡ p
 product_held Eight d v = refl
 product_held Sixteen d v = short v
 
 at_product : (make : ℕ → ℕ → Instruction) (h : Half) (s d : ℕ) → Digit (product_width h) d
-    → held (product_width h) ((s · d) % 16) (Whole (make ((s · d) / 16) ((s · d) % 16))) ≡ Whole (make s d)
-at_product make h s d v = digits (λ x y. held (product_width h) y (Whole (make x y))) s (product_digit h d v) ∙ product_held h d v
+    → held (product_width h) ((s · d) % 16) (Some (Whole (make ((s · d) / 16) ((s · d) % 16)))) ≡ Some (Whole (make s d))
+at_product make h s d v = digits (λ x y. held (product_width h) y (Some (Whole (make x y)))) s (product_digit h d v) ∙ product_held h d v
 
 multiply_shape : (sign : Sign) (h : Half) (s d : ℕ) → Digit (product_width h) d → Shape (Multiply sign h s d) (code_of (Multiply sign h s d))
 multiply_shape Unsigned Eight s d v = one refl refl (at_product (Multiply Unsigned Eight) Eight s d v)
@@ -310,13 +311,13 @@ divide_shape Signed Sixteen s d v = long refl refl refl (all (at_product (Divide
 -- ---- the bit instructions
 
 -- What `plan` makes of a word is an instruction with its bit in a byte register, at @ER behind `lead`, or at aa:8 behind `lead + 2`.
-module _ (lead : ℕ) (plan : ℕ → ℕ → Spot → Plan) (er : two_words lead ≡ true) (abs : two_words (lead + 2) ≡ true)
+module _ (lead : ℕ) (plan : ℕ → ℕ → Spot → Option Plan) (er : two_words lead ≡ true) (abs : two_words (lead + 2) ≡ true)
     (cut-er : (b : ℕ) → prefix_of lead b ≡ pick (is_ezero b) Cut Unlisted) (cut-abs : (b : ℕ) → prefix_of (lead + 2) b ≡ Cut)
     (after-er : (b c d : ℕ) → after_of lead b c d ≡ e_zero b (exactly (d % 16) 0 (plan c d (AtEr (b / 16)))))
     (after-abs : (b c d : ℕ) → after_of (lead + 2) b c d ≡ exactly (d % 16) 0 (plan c d (AtAbs b))) where
   bit_shape : (byte digit : ℕ) (make : Spot → Instruction) → two_words byte ≡ false → starts_of byte ≡ Cut
       → ((b : ℕ) → plan_of byte b ≡ plan byte b (InPart (b % 16))) → ((spot : Spot) → begun_of (plan byte 0 spot) ≡ Cut)
-      → ((spot : Spot) (d : ℕ) → d < 16 → plan byte (digit · d) spot ≡ Whole (make spot))
+      → ((spot : Spot) (d : ℕ) → d < 16 → plan byte (digit · d) spot ≡ Some (Whole (make spot)))
       → (spot : Spot) → HasSpot spot → Shape (make spot) (spot_code lead spot byte digit)
   bit_shape byte digit make n st f cut g (InPart d) v =
       one n st (f (digit · d) ∙ ap (λ x. plan byte (digit · d) (InPart x)) (digits_mod digit v) ∙ g (InPart d) d v)
@@ -336,13 +337,13 @@ module _ (lead : ℕ) (plan : ℕ → ℕ → Spot → Plan) (er : two_words lea
 
 reads : (byte digit : ℕ) (make : Spot → Instruction) → two_words byte ≡ false → starts_of byte ≡ Cut
     → ((b : ℕ) → plan_of byte b ≡ reads_of byte b (InPart (b % 16))) → ((spot : Spot) → begun_of (reads_of byte 0 spot) ≡ Cut)
-    → ((spot : Spot) (d : ℕ) → d < 16 → reads_of byte (digit · d) spot ≡ Whole (make spot))
+    → ((spot : Spot) (d : ℕ) → d < 16 → reads_of byte (digit · d) spot ≡ Some (Whole (make spot)))
     → (spot : Spot) → HasSpot spot → Shape (make spot) (spot_code 0x7C spot byte digit)
 reads = bit_shape 0x7C reads_of refl refl (λ b. refl) (λ b. refl) (λ b c d. refl) (λ b c d. refl)
 
 writes : (byte digit : ℕ) (make : Spot → Instruction) → two_words byte ≡ false → starts_of byte ≡ Cut
     → ((b : ℕ) → plan_of byte b ≡ writes_of byte b (InPart (b % 16))) → ((spot : Spot) → begun_of (writes_of byte 0 spot) ≡ Cut)
-    → ((spot : Spot) (d : ℕ) → d < 16 → writes_of byte (digit · d) spot ≡ Whole (make spot))
+    → ((spot : Spot) (d : ℕ) → d < 16 → writes_of byte (digit · d) spot ≡ Some (Whole (make spot)))
     → (spot : Spot) → HasSpot spot → Shape (make spot) (spot_code 0x7D spot byte digit)
 writes = bit_shape 0x7D writes_of refl refl (λ b. refl) (λ b. refl) (λ b c d. refl) (λ b c d. refl)
 
@@ -353,18 +354,18 @@ is_low n d hn hd = lt-ltb ((0 + n) · d) 128 (omega arith)
 is_high : (n d : ℕ) → n < 8 → d < 16 → ltb ((8 + n) · d) 128 ≡ false
 is_high n d hn hd = le-ltb ((8 + n) · d) 128 (omega arith)
 
-low_number : (make : ℕ → Instruction) (n : ℕ) {d : ℕ} → d < 16 → Whole (make (((0 + n) · d) / 16)) ≡ Whole (make n)
-low_number make n hd = ap (λ x. Whole (make x)) (digits_div (0 + n) hd ∙ zero-add n)
+low_number : (make : ℕ → Instruction) (n : ℕ) {d : ℕ} → d < 16 → (Some (Whole (make (((0 + n) · d) / 16)))) ≡ Some (Whole (make n))
+low_number make n hd = ap (λ x. Some (Whole (make x))) (digits_div (0 + n) hd ∙ zero-add n)
 
-high_number : (make : ℕ → Instruction) (n : ℕ) {d : ℕ} → d < 16 → Whole (make (((8 + n) · d) / 16 - 8)) ≡ Whole (make n)
-high_number make n hd = ap (λ x. Whole (make (x - 8))) (digits_div (8 + n) hd) ∙ ap (λ x. Whole (make x)) (add-sub_cancel_left 8 n)
+high_number : (make : ℕ → Instruction) (n : ℕ) {d : ℕ} → d < 16 → (Some (Whole (make (((8 + n) · d) / 16 - 8)))) ≡ Some (Whole (make n))
+high_number make n hd = ap (λ x. Some (Whole (make (x - 8)))) (digits_div (8 + n) hd) ∙ ap (λ x. Some (Whole (make x))) (add-sub_cancel_left 8 n)
 
-part_number : (make : ℕ → Instruction) (r : ℕ) {d : ℕ} → d < 16 → Whole (make ((r · d) / 16)) ≡ Whole (make r)
-part_number make r hd = ap (λ x. Whole (make x)) (digits_div r hd)
+part_number : (make : ℕ → Instruction) (r : ℕ) {d : ℕ} → d < 16 → (Some (Whole (make ((r · d) / 16)))) ≡ Some (Whole (make r))
+part_number make r hd = ap (λ x. Some (Whole (make x))) (digits_div r hd)
 
 -- a pair of readers at one byte
 take_pair : (t u : Take) (byte : ℕ) → two_words byte ≡ false → starts_of byte ≡ Cut → ((b : ℕ) → plan_of byte b ≡ reads_of byte b (InPart (b % 16)))
-    → ((b : ℕ) (spot : Spot) → reads_of byte b spot ≡ take_either t u b spot) → (n : ℕ) → n < 8 → (spot : Spot) → HasSpot spot
+    → ((b : ℕ) (spot : Spot) → reads_of byte b spot ≡ either Takes t u b spot) → (n : ℕ) → n < 8 → (spot : Spot) → HasSpot spot
     → Shape (Takes t (Numbered n) spot) (spot_code 0x7C spot byte (0 + n)) × Shape (Takes u (Numbered n) spot) (spot_code 0x7C spot byte (8 + n))
 take_pair t u byte m st f g n hn spot hs = (
   reads byte (0 + n) (Takes t (Numbered n)) m st f (λ s. ap begun_of (g 0 s))
@@ -398,14 +399,14 @@ take_shape Bild (ByPart r) spot v = absurd v.0.0
 
 -- a writer by a number and by a register
 give_numbered_lem : (give : Give) (byte : ℕ) → two_words byte ≡ false → starts_of byte ≡ Cut → ((b : ℕ) → plan_of byte b ≡ writes_of byte b (InPart (b % 16)))
-    → ((b : ℕ) (spot : Spot) → writes_of byte b spot ≡ give_numbered give b spot) → (n : ℕ) → n < 8 → (spot : Spot) → HasSpot spot
+    → ((b : ℕ) (spot : Spot) → writes_of byte b spot ≡ numbered Gives give b spot) → (n : ℕ) → n < 8 → (spot : Spot) → HasSpot spot
     → Shape (Gives give (Numbered n) spot) (spot_code 0x7D spot byte (0 + n))
 give_numbered_lem give byte m st f g n hn =
     writes byte (0 + n) (Gives give (Numbered n)) m st f (λ s. ap begun_of (g 0 s))
     (λ s d h. g ((0 + n) · d) s ∙ rw (is_low n d hn h) (low_number (λ x. Gives give (Numbered x) s) n h))
 
 give_by_part_lem : (give : Give) (byte : ℕ) → two_words byte ≡ false → starts_of byte ≡ Cut → ((b : ℕ) → plan_of byte b ≡ writes_of byte b (InPart (b % 16)))
-    → ((b : ℕ) (spot : Spot) → writes_of byte b spot ≡ give_by_part give b spot) → (r : ℕ) (spot : Spot) → HasSpot spot
+    → ((b : ℕ) (spot : Spot) → writes_of byte b spot ≡ by_part Gives give b spot) → (r : ℕ) (spot : Spot) → HasSpot spot
     → Shape (Gives give (ByPart r) spot) (spot_code 0x7D spot byte r)
 give_by_part_lem give byte m st f g r =
     writes byte r (Gives give (ByPart r)) m st f (λ s. ap begun_of (g 0 s)) (λ s d h. g (r · d) s ∙ part_number (λ x. Gives give (ByPart x) s) r h)
@@ -427,13 +428,13 @@ give_shape Bst (ByPart r) spot v = absurd v.0.0
 give_shape Bist (ByPart r) spot v = absurd v.0.0
 
 -- what follows the second byte of a MOV with memory
-ends_disp : {p : Plan} (dir : Dir) (w : Width) (e d r : ℕ) → d < 0x10000 → p ≡ move_of w Displaced dir e r → Ends p (Move dir w (Disp e d) r) (be16 d)
+ends_disp : {p : Option Plan} (dir : Dir) (w : Width) (e d r : ℕ) → d < 0x10000 → p ≡ move_of w Displaced dir e r → Ends p (Move dir w (Disp e d) r) (be16 d)
 ends_disp dir w e d r h k = two (Disp16 dir w e r) k refl (ap (λ x. Move dir w (Disp e x) r) (low16 d h))
 
-ends_16 : {p : Plan} (dir : Dir) (w : Width) (a r : ℕ) → a < 0x10000 → p ≡ move_of w Absolute dir 0 r → Ends p (Move dir w (Abs16 a) r) (be16 a)
+ends_16 : {p : Option Plan} (dir : Dir) (w : Width) (a r : ℕ) → a < 0x10000 → p ≡ move_of w Absolute dir 0 r → Ends p (Move dir w (Abs16 a) r) (be16 a)
 ends_16 dir w a r h k = two (Aa16 dir w r) k refl (ap (λ x. Move dir w (Abs16 x) r) (low16 a h))
 
-ends_24 : {p : Plan} (dir : Dir) (w : Width) (a r : ℕ) → p ≡ move_of w Absolute dir 2 r → Ends p (Move dir w (Abs24 a) r) (0 ∷ be24 a)
+ends_24 : {p : Option Plan} (dir : Dir) (w : Width) (a r : ℕ) → p ≡ move_of w Absolute dir 2 r → Ends p (Move dir w (Abs24 a) r) (0 ∷ be24 a)
 ends_24 dir w a r k = zero_three (Aa24 dir w r) k refl (ap (λ x. Move dir w (Abs24 x) r) (whole24 a))
 
 move_shape : (dir : Dir) (w : Width) (p : Place) (r : ℕ) → Valid (Move dir w p r) → Shape (Move dir w p r) (code_of (Move dir w p r))
@@ -461,15 +462,15 @@ bcc_shape : (c : ℕ) (k : Reach) → Valid (Bcc c k) → Shape (Bcc c k) (code_
 bcc_shape c (Near d) v = by_first 4 v.0 (omega arith) (omega arith) (omega arith) refl refl
 bcc_shape c (Far d) v =
     plain {a = 0x58} {b = c · 0} refl refl
-    (two (Bcc16 c) (taken {x = bcc_digit (c · 0)} {k = 0} (omega arith) ∙ ap (λ x. Lacks (Bcc16 x)) (digits_div c (omega arith))) refl (ap (λ x. Bcc c (Far x)) (low16 d v.1)))
+    (two (Bcc16 c) (taken {x = bcc_digit (c · 0)} {k = 0} (omega arith) ∙ ap (λ x. Some (Lacks (Bcc16 x))) (digits_div c (omega arith))) refl (ap (λ x. Bcc c (Far x)) (low16 d v.1)))
 
 jmp_shape : (t : Target) → Valid (Jmp t) → Shape (Jmp t) (code_of (Jmp t))
-jmp_shape (ByReg e) v = one refl refl (at_e_zero (λ x. Whole (Jmp (ByReg x))) e v)
+jmp_shape (ByReg e) v = one refl refl (at_e_zero (λ x. Some (Whole (Jmp (ByReg x)))) e v)
 jmp_shape (Direct a) v = plain {b = a / 65536} refl refl (two (Jmp24 (a / 65536)) refl refl (ap (λ x. Jmp (Direct x)) (apart24 a v)))
 jmp_shape (Vector a) v = one refl refl refl
 
 jsr_shape : (t : Target) → Valid (Jsr t) → Shape (Jsr t) (code_of (Jsr t))
-jsr_shape (ByReg e) v = one refl refl (at_e_zero (λ x. Whole (Jsr (ByReg x))) e v)
+jsr_shape (ByReg e) v = one refl refl (at_e_zero (λ x. Some (Whole (Jsr (ByReg x)))) e v)
 jsr_shape (Direct a) v = plain {b = a / 65536} refl refl (two (Jsr24 (a / 65536)) refl refl (ap (λ x. Jsr (Direct x)) (apart24 a v)))
 jsr_shape (Vector a) v = one refl refl refl
 
@@ -485,8 +486,8 @@ change_shape Ldc v = one refl refl refl
 
 pub shape : (i : Instruction) → Valid i → Shape i (code_of i)
 shape Nop v = one refl refl refl
-shape (Stc r) v = one refl refl (rw (lt-ltb (0 · r) 16 (omega arith)) (ap (λ x. Whole (Stc x)) (zero-add r)))
-shape (LdcReg r) v = one refl refl (rw (lt-ltb (0 · r) 16 (omega arith)) (ap (λ x. Whole (LdcReg x)) (zero-add r)))
+shape (Stc r) v = one refl refl (rw (lt-ltb (0 · r) 16 (omega arith)) (ap (λ x. Some (Whole (Stc x))) (zero-add r)))
+shape (LdcReg r) v = one refl refl (rw (lt-ltb (0 · r) 16 (omega arith)) (ap (λ x. Some (Whole (LdcReg x))) (zero-add r)))
 shape (Ccr f n) v = change_shape f n
 shape (Alu op w (Reg s) d) v = reg_shape op w s d v
 shape (Alu op w (Imm n) d) v = imm_shape op w n d v

@@ -1,4 +1,5 @@
 -- What the decoder finds stands in the code list: an instruction whose code begins the bytes, or one of whose code they are a proper beginning.
+use Rattle.std.specs.Prelude.{Option, Some, None, Result, Ok, Err}
 use Prim.Native.Nat.{ℕ, ◌+◌, ◌*◌, ◌/◌, ◌<◌}
 use mathlib.Core.Path.{◌≡◌, refl, sym, ap, ◌∙◌, subst}
 use mathlib.Core.Logic.{◌⊎◌, inl, inr}
@@ -8,8 +9,8 @@ use native.Mathlib.Omega.{arith}
 use lib.Dec.{eqb}
 use lib.ListN.{length, length-append}
 use borrow.Author.Tests.{eqb-true, eqb-false}
-use Rattle.decoder.specs.Names.{Long, Or, Reg, Eight, Signed, Btst, Bset, Numbered, AtEr, AtAbs, Load, At, Instruction, Nop, Alu, Multiply, Divide, Takes, Gives, Move, Rts, Rest, Plan, Whole, Lacks, Nothing, Tail, Bits16}
-use Rattle.decoder.specs.Names.{Bits24, Bits32, Found, Is, Cut, Unlisted}
+use Rattle.decoder.specs.Names.{Long, Or, Reg, Eight, Signed, Btst, Bset, Numbered, AtEr, AtAbs, Load, At, Instruction, Nop, Alu, Multiply, Divide, Takes, Gives, Move, Rts, Rest, Plan, Whole, Lacks, Tail, Bits16}
+use Rattle.decoder.specs.Names.{Bits24, Bits32, Fault, Cut, Unlisted}
 use Rattle.codes.specs.Code.{code_of}
 use Rattle.codes.specs.Valid.{Valid}
 use Rattle.codes.specs.Exact.{Bytes, Begins, CutOf}
@@ -19,12 +20,15 @@ use Rattle.decoder.proofs.Complete.{word_first, word_second, sixteen, thirty_two
 use Rattle.decoder.proofs.Good.{Codes, Good2, Good3, Good4, GoodTail, Good, if≡, if_e_zero, four≡, plan_good, after_good}
 
 -- what an answer says of the bytes, but for `Unlisted`
-abbrev pub Sound : List ℕ → Found → Type 0
-Sound s (Is i n) = Valid i × (n ≡ length (code_of i)) × Begins (code_of i) s
-Sound s Cut = (i : Instruction) × Valid i × CutOf s (code_of i)
-Sound s Unlisted = Unit {0}
+abbrev pub Faulty : List ℕ → Fault → Type 0
+Faulty s Cut = (i : Instruction) × Valid i × CutOf s (code_of i)
+Faulty s Unlisted = Unit {0}
 
-by : (s : List ℕ) {r r' : Found} → r' ≡ r → Sound s r → Sound s r'
+abbrev pub Sound : List ℕ → Result (Instruction × ℕ) Fault → Type 0
+Sound s (Ok (i, n)) = Valid i × (n ≡ length (code_of i)) × Begins (code_of i) s
+Sound s (Err f) = Faulty s f
+
+by : (s : List ℕ) {r r' : Result (Instruction × ℕ) Fault} → r' ≡ r → Sound s r → Sound s r'
 by s e h = subst (λ r. Sound s r) (sym e) h
 
 dec≡ : (x k : ℕ) → (x ≡ k) ⊎ (x ≡ k → ⊥)
@@ -36,7 +40,7 @@ dec≡ x k = go (eqb x k) refl
 
 module _ (pre : List ℕ) (a b : ℕ) where
   -- a whole code, and the rest
-  found : (i : Instruction) (t rest : List ℕ) (n : ℕ) → Codes pre a b i t → n ≡ length pre + (2 + length t) → Sound (pre ++ (a ∷ b ∷ (t ++ rest))) (Is i n)
+  found : (i : Instruction) (t rest : List ℕ) (n : ℕ) → Codes pre a b i t → n ≡ length pre + (2 + length t) → Sound (pre ++ (a ∷ b ∷ (t ++ rest))) (Ok (i, n))
   found i t rest n g e = (
     g.0,
     e ∙ sym (ap length g.1 ∙ length-append pre (a ∷ b ∷ t) ∙ omega arith),
@@ -44,7 +48,7 @@ module _ (pre : List ℕ) (a b : ℕ) where
   )
 
   -- a proper beginning of a code
-  begun : (i : Instruction) (s : List ℕ) (x : ℕ) (u : List ℕ) → Codes pre a b i (s ++ (x ∷ u)) → Sound (pre ++ (a ∷ b ∷ s)) Cut
+  begun : (i : Instruction) (s : List ℕ) (x : ℕ) (u : List ℕ) → Codes pre a b i (s ++ (x ∷ u)) → Faulty (pre ++ (a ∷ b ∷ s)) Cut
   begun i s x u g = (i, g.0, (x, u, g.1 ∙ sym (append_assoc pre (a ∷ b ∷ s) (x ∷ u))))
 
   sound16 : (q : Rest) → Good2 pre a b q → (t : List ℕ) → Bytes t → (n : ℕ) → n ≡ length pre + 2 → Sound (pre ++ (a ∷ b ∷ t)) (with16 q t n)
@@ -88,66 +92,66 @@ module _ (pre : List ℕ) (a b : ℕ) where
   tail_sound Bits24 q g t h n e = sound24 q g t h n e
   tail_sound Bits32 q g t h n e = sound32 q g t h n e
 
-  finish_sound : (p : Plan) → Good pre a b p → (t : List ℕ) → Bytes t → (n : ℕ) → n ≡ length pre + 2 → Sound (pre ++ (a ∷ b ∷ t)) (finish_of p t n)
-  finish_sound (Whole i) g t h n e = found i [] t n g e
-  finish_sound (Lacks q) g t h n e = tail_sound (tail_of_rest q) q g t h n e
-  finish_sound Nothing g t h n e = tt
+  finish_sound : (p : Option Plan) → Good pre a b p → (t : List ℕ) → Bytes t → (n : ℕ) → n ≡ length pre + 2 → Sound (pre ++ (a ∷ b ∷ t)) (finish_of p t n)
+  finish_sound (Some (Whole i)) g t h n e = found i [] t n g e
+  finish_sound (Some (Lacks q)) g t h n e = tail_sound (tail_of_rest q) q g t h n e
+  finish_sound None g t h n e = tt
 
 -- a byte that begins a word, where its second byte is 0
 module _ (pre : List ℕ) (a : ℕ) where
-  first_byte : (i : Instruction) (t : List ℕ) → Codes pre a 0 i t → Sound (pre ++ (a ∷ [])) Cut
+  first_byte : (i : Instruction) (t : List ℕ) → Codes pre a 0 i t → Faulty (pre ++ (a ∷ [])) Cut
   first_byte i t g = (i, g.0, (0, t, g.1 ∙ sym (append_assoc pre (a ∷ []) (0 ∷ t))))
 
-  first_tail : (k : Tail) (q : Rest) → GoodTail k pre a 0 q → Sound (pre ++ (a ∷ [])) Cut
+  first_tail : (k : Tail) (q : Rest) → GoodTail k pre a 0 q → Faulty (pre ++ (a ∷ [])) Cut
   first_tail Bits16 q g = first_byte (fill_of q (0 * 256 + 0)) (0 ∷ 0 ∷ []) (g 0 0 (omega arith) (omega arith))
   first_tail Bits24 q g =
       first_byte (fill_of q (0 * 16777216 + 0 * 65536 + 0 * 256 + 0)) (0 ∷ 0 ∷ 0 ∷ 0 ∷ []) (g 0 0 0 (omega arith) (omega arith) (omega arith))
   first_tail Bits32 q g =
       first_byte (fill_of q (0 * 16777216 + 0 * 65536 + 0 * 256 + 0)) (0 ∷ 0 ∷ 0 ∷ 0 ∷ []) (g 0 0 0 0 (omega arith) (omega arith) (omega arith) (omega arith))
 
-  begun_sound : (p : Plan) → Good pre a 0 p → Sound (pre ++ (a ∷ [])) (begun_of p)
-  begun_sound (Whole i) g = first_byte i [] g
-  begun_sound (Lacks q) g = first_tail (tail_of_rest q) q g
-  begun_sound Nothing g = tt
+  begun_sound : (p : Option Plan) → Good pre a 0 p → Faulty (pre ++ (a ∷ [])) (begun_of p)
+  begun_sound (Some (Whole i)) g = first_byte i [] g
+  begun_sound (Some (Lacks q)) g = first_tail (tail_of_rest q) q g
+  begun_sound None g = tt
 
 -- the first byte of an instruction's two words
-first_of : (a : ℕ) (i : Instruction) {k c : ℕ} → Valid i → code_of i ≡ k ∷ 0 ∷ c ∷ 0 ∷ [] → a ≡ k → Sound (a ∷ []) Cut
+first_of : (a : ℕ) (i : Instruction) {k c : ℕ} → Valid i → code_of i ≡ k ∷ 0 ∷ c ∷ 0 ∷ [] → a ≡ k → Faulty (a ∷ []) Cut
 first_of a i {c = c} v e h = (i, v, (0, c ∷ 0 ∷ [], e ∙ four≡ [] (sym h) refl refl refl))
 
-start_sound : (a : ℕ) → a < 256 → Sound (a ∷ []) (starts_of a)
+start_sound : (a : ℕ) → a < 256 → Faulty (a ∷ []) (starts_of a)
 start_sound a h =
     if≡ P a 0x01 (first_of a (Move Load Long (At 0) 0) (omega arith, omega arith) refl) λ n01.
     if≡ P a 0x7C (first_of a (Takes Btst (Numbered 0) (AtEr 0)) (omega arith, omega arith) refl) λ n7C.
     if≡ P a 0x7D (first_of a (Gives Bset (Numbered 0) (AtEr 0)) (omega arith, omega arith) refl) λ n7D.
     if≡ P a 0x7E (first_of a (Takes Btst (Numbered 0) (AtAbs 0)) (omega arith, omega arith) refl) λ n7E.
     if≡ P a 0x7F (first_of a (Gives Bset (Numbered 0) (AtAbs 0)) (omega arith, omega arith) refl) λ n7F.
-    if≡ (Sound (a ∷ [])) a 0x54 (λ k. (Rts, tt, (0x70, [], ap (λ x. x ∷ 0x70 ∷ []) (sym k)))) λ n54.
+    if≡ (Faulty (a ∷ [])) a 0x54 (λ k. (Rts, tt, (0x70, [], ap (λ x. x ∷ 0x70 ∷ []) (sym k)))) λ n54.
     begun_sound [] a (plan_of a 0) (plan_good a 0 (omega arith) h)
   where
     P : Bool → Type 0
-    P two = Sound (a ∷ []) (pick two Cut (pick (eqb a 0x54) Cut (begun_of (plan_of a 0))))
+    P two = Faulty (a ∷ []) (pick two Cut (pick (eqb a 0x54) Cut (begun_of (plan_of a 0))))
 
 -- an instruction's first word
-word_of : (a b : ℕ) (i : Instruction) (c : ℕ) → Valid i → code_of i ≡ a ∷ b ∷ c ∷ 0 ∷ [] → Sound (a ∷ b ∷ []) Cut
+word_of : (a b : ℕ) (i : Instruction) (c : ℕ) → Valid i → code_of i ≡ a ∷ b ∷ c ∷ 0 ∷ [] → Faulty (a ∷ b ∷ []) Cut
 word_of a b i c v e = (i, v, (c, 0 ∷ [], e))
 
-prefix01_sound : (b : ℕ) → Sound (1 ∷ b ∷ []) (prefix01 b)
+prefix01_sound : (b : ℕ) → Faulty (1 ∷ b ∷ []) (prefix01 b)
 prefix01_sound b =
-    if≡ (Sound (1 ∷ b ∷ [])) b 0x00 (λ k. word_of 1 b (Move Load Long (At 0) 0) 0x69 (omega arith, omega arith) (four≡ [] refl (sym k) refl refl)) λ n0.
-    if≡ (Sound (1 ∷ b ∷ [])) b 0xC0 (λ k. word_of 1 b (Multiply Signed Eight 0 0) 0x50 (omega arith, omega arith) (four≡ [] refl (sym k) refl refl)) λ nC0.
-    if≡ (Sound (1 ∷ b ∷ [])) b 0xD0 (λ k. word_of 1 b (Divide Signed Eight 0 0) 0x51 (omega arith, omega arith) (four≡ [] refl (sym k) refl refl)) λ nD0.
-    if≡ (Sound (1 ∷ b ∷ [])) b 0xF0 (λ k. word_of 1 b (Alu Or Long (Reg 0) 0) 0x64 (omega arith) (four≡ [] refl (sym k) refl refl)) λ nF0. tt
+    if≡ (Faulty (1 ∷ b ∷ [])) b 0x00 (λ k. word_of 1 b (Move Load Long (At 0) 0) 0x69 (omega arith, omega arith) (four≡ [] refl (sym k) refl refl)) λ n0.
+    if≡ (Faulty (1 ∷ b ∷ [])) b 0xC0 (λ k. word_of 1 b (Multiply Signed Eight 0 0) 0x50 (omega arith, omega arith) (four≡ [] refl (sym k) refl refl)) λ nC0.
+    if≡ (Faulty (1 ∷ b ∷ [])) b 0xD0 (λ k. word_of 1 b (Divide Signed Eight 0 0) 0x51 (omega arith, omega arith) (four≡ [] refl (sym k) refl refl)) λ nD0.
+    if≡ (Faulty (1 ∷ b ∷ [])) b 0xF0 (λ k. word_of 1 b (Alu Or Long (Reg 0) 0) 0x64 (omega arith) (four≡ [] refl (sym k) refl refl)) λ nF0. tt
 
-prefix_sound : (a b : ℕ) → b < 256 → Sound (a ∷ b ∷ []) (prefix_of a b)
+prefix_sound : (a b : ℕ) → b < 256 → Faulty (a ∷ b ∷ []) (prefix_of a b)
 prefix_sound a b hb =
-    if≡ (Sound (a ∷ b ∷ [])) a 0x01 (λ k. subst (λ x. Sound (x ∷ b ∷ []) (prefix01 b)) (sym k) (prefix01_sound b)) λ n01.
+    if≡ (Faulty (a ∷ b ∷ [])) a 0x01 (λ k. subst (λ x. Faulty (x ∷ b ∷ []) (prefix01 b)) (sym k) (prefix01_sound b)) λ n01.
     if≡ P a 0x7C (λ k. if_e_zero P b (λ z e. word_of a b (Takes Btst (Numbered 0) (AtEr (b / 16))) 0x73 (omega arith, e) (four≡ [] (sym k) (omega arith) refl refl)) tt) λ n7C.
     if≡ P a 0x7D (λ k. if_e_zero P b (λ z e. word_of a b (Gives Bset (Numbered 0) (AtEr (b / 16))) 0x70 (omega arith, e) (four≡ [] (sym k) (omega arith) refl refl)) tt) λ n7D.
     if≡ P a 0x7E (λ k. word_of a b (Takes Btst (Numbered 0) (AtAbs b)) 0x73 (omega arith, hb) (four≡ [] (sym k) refl refl refl)) λ n7E.
     if≡ P a 0x7F (λ k. word_of a b (Gives Bset (Numbered 0) (AtAbs b)) 0x70 (omega arith, hb) (four≡ [] (sym k) refl refl refl)) λ n7F. tt
   where
     P : Bool → Type 0
-    P named = Sound (a ∷ b ∷ []) (pick named Cut Unlisted)
+    P named = Faulty (a ∷ b ∷ []) (pick named Cut Unlisted)
 
 prefixed_sound : (a b : ℕ) → b < 256 → (t : List ℕ) → Bytes t → Sound (a ∷ b ∷ t) (prefixed_of a b t)
 prefixed_sound a b hb [] h = prefix_sound a b hb
@@ -156,7 +160,7 @@ prefixed_sound a b hb (c ∷ d ∷ t) h =
     by (a ∷ b ∷ c ∷ d ∷ t) (word_second a b c d t)
     (finish_sound (a ∷ b ∷ []) c d (after_of a b c d) (after_good c d h.1.0 a b hb) t h.1.1 4 refl)
 
-both : (s : List ℕ) (two : Bool) (r r' : Found) → Sound s r → Sound s r' → Sound s (pick two r r')
+both : (s : List ℕ) (two : Bool) (r r' : Result (Instruction × ℕ) Fault) → Sound s r → Sound s r' → Sound s (pick two r r')
 both s true r r' h h' = h
 both s false r r' h h' = h'
 

@@ -39,20 +39,16 @@ pub use Rattle.codes.specs.declared.Instruction.{Instruction}
 pub use Rattle.codes.specs.declared.Instruction.TheVariants.{Nop, Stc, LdcReg, Ccr, Alu, IncDec, AddsSubs, Decimal, Shift, Unary, Multiply, Divide, Takes, Gives, Move, Bcc, Jmp, Bsr, Jsr, Rts}
 pub use Rattle.codes.specs.declared.Goes.{Goes}
 pub use Rattle.codes.specs.declared.Goes.TheVariants.{Onward, Branches, Jumps, CallsNear, Calls, Returns}
-pub use Rattle.codes.specs.declared.Decoded.{Decoded}
-pub use Rattle.codes.specs.declared.Decoded.TheVariants.{Code, NoCode}
-pub use Rattle.codes.specs.declared.Encoded.{Encoded}
-pub use Rattle.codes.specs.declared.Encoded.TheVariants.{Written, NotWritten}
 pub use Rattle.refusal.specs.declared.Refusal.{Refusal}
 pub use Rattle.refusal.specs.declared.Refusal.TheVariants.{UnknownCode, CutShort, NotInstruction, LentTooShort}
 -- and of the decoder's own parts, to the files here
 pub use Rattle.decoder.specs.declared.plan.Rest.{Rest}
 pub use Rattle.decoder.specs.declared.plan.Rest.TheVariants.{Imm16, Imm32, Disp16, Aa16, Aa24, Bcc16, Bsr16, Jmp24, Jsr24}
 pub use Rattle.decoder.specs.declared.plan.Plan.{Plan}
-pub use Rattle.decoder.specs.declared.plan.Plan.TheVariants.{Whole, Lacks, Nothing}
+pub use Rattle.decoder.specs.declared.plan.Plan.TheVariants.{Whole, Lacks}
 pub use Rattle.decoder.specs.declared.plan.Mode.{Mode}
 pub use Rattle.decoder.specs.declared.plan.Mode.TheVariants.{Plain, Stepping, Displaced, Absolute}
 pub use Rattle.decoder.specs.declared.whole.Tail.{Tail}
 pub use Rattle.decoder.specs.declared.whole.Tail.TheVariants.{Bits16, Bits24, Bits32}
-pub use Rattle.decoder.specs.declared.whole.Found.{Found}
-pub use Rattle.decoder.specs.declared.whole.Found.TheVariants.{Is, Cut, Unlisted}
+pub use Rattle.decoder.specs.declared.whole.Fault.{Fault}
+pub use Rattle.decoder.specs.declared.whole.Fault.TheVariants.{Cut, Unlisted}

@@ -1,5 +1,5 @@
 // What bytes begin with: a word's plan, and the bytes that it lacks.
-ghost use Rattle.std.specs.Prelude.{◌≡◌, ◌<◌, get_or};
+ghost use Rattle.std.specs.Prelude.{◌≡◌, get_or};
 ghost use Rattle.decoder.specs.MirrorDecode.{tail_of_rest, fill_of, with16, with24, with32, by_tail, finish_of, begun_of, two_words, alone_of, prefix01, prefix_of, short_of, lead_of, planned_of, found_of};
 
 use crate::plan::{Plan, Rest};
@@ -14,10 +14,9 @@ enum Tail {
     Bits32,
 }
 
-// An instruction and its length; or the bytes are a proper beginning of a code; or neither.
-#[derive(Clone, Copy)]
-pub enum Found {
-    Is(Instruction, usize),
+// Why bytes begin with no instruction: they are a proper beginning of a code, or of none.
+#[derive(Clone, Copy, Debug, PartialEq, Eq)]
+pub enum Fault {
     Cut,
     Unlisted,
 }
@@ -26,15 +25,9 @@ fn lacking(q: Rest) -> Tail
     ensures { result ≡ tail_of_rest q }
 {
     match q {
-        Rest::Imm16(_, _) => Tail::Bits16,
         Rest::Imm32(_, _) => Tail::Bits32,
-        Rest::Disp16(_, _, _, _) => Tail::Bits16,
-        Rest::Aa16(_, _, _) => Tail::Bits16,
         Rest::Aa24(_, _, _) => Tail::Bits24,
-        Rest::Bcc16(_) => Tail::Bits16,
-        Rest::Bsr16 => Tail::Bits16,
-        Rest::Jmp24(_) => Tail::Bits16,
-        Rest::Jsr24(_) => Tail::Bits16,
+        _ => Tail::Bits16,
     }
 }
 
@@ -60,48 +53,45 @@ fn filled(q: Rest, v: u32) -> Instruction
     }
 }
 
-fn wide(x: u8) -> u32
-    ensures { (result ≡ x) × (result < 256) }
-{
-    x as u32
-}
-
 // n bytes are passed.
-fn with_16(q: Rest, rest: &[u8], n: u8) -> Found
+fn with_16(q: Rest, rest: &[u8], n: u8) -> Result<(Instruction, usize), Fault>
     ensures { result ≡ with16 q rest.now n }
 {
-    if rest.len() < 2 {
-        return Found::Cut;
+    match rest {
+        [x, y, ..] => Ok((
+            filled(q, u32::from(*x) * 256 + u32::from(*y)),
+            n as usize + 2,
+        )),
+        _ => Err(Fault::Cut),
     }
-    Found::Is(
-        filled(q, wide(rest[0]) * 256 + wide(rest[1])),
-        n as usize + 2,
-    )
 }
 
-fn with_32(q: Rest, rest: &[u8], n: u8) -> Found
+fn with_32(q: Rest, rest: &[u8], n: u8) -> Result<(Instruction, usize), Fault>
     ensures { result ≡ with32 q rest.now n }
 {
-    if rest.len() < 4 {
-        return Found::Cut;
+    match rest {
+        [x, y, z, w, ..] => {
+            let high = u32::from(*x) * 16777216 + u32::from(*y) * 65536;
+            Ok((
+                filled(q, high + u32::from(*z) * 256 + u32::from(*w)),
+                n as usize + 4,
+            ))
+        }
+        _ => Err(Fault::Cut),
     }
-    let v = wide(rest[0]) * 16777216 + wide(rest[1]) * 65536 + wide(rest[2]) * 256 + wide(rest[3]);
-    Found::Is(filled(q, v), n as usize + 4)
 }
 
-fn with_24(q: Rest, rest: &[u8], n: u8) -> Found
+fn with_24(q: Rest, rest: &[u8], n: u8) -> Result<(Instruction, usize), Fault>
     ensures { result ≡ with24 q rest.now n }
 {
-    if rest.len() == 0 {
-        return Found::Cut;
+    match rest {
+        [] => Err(Fault::Cut),
+        [0, ..] => with_32(q, rest, n),
+        _ => Err(Fault::Unlisted),
     }
-    if rest[0] == 0 {
-        return with_32(q, rest, n);
-    }
-    Found::Unlisted
 }
 
-fn more(k: Tail, q: Rest, rest: &[u8], n: u8) -> Found
+fn more(k: Tail, q: Rest, rest: &[u8], n: u8) -> Result<(Instruction, usize), Fault>
     ensures { result ≡ by_tail k q rest.now n }
 {
     match k {
@@ -111,24 +101,24 @@ fn more(k: Tail, q: Rest, rest: &[u8], n: u8) -> Found
     }
 }
 
-fn finish(p: Plan, rest: &[u8], n: u8) -> Found
+fn finish(p: Option<Plan>, rest: &[u8], n: u8) -> Result<(Instruction, usize), Fault>
     ensures { result ≡ finish_of p rest.now n }
 {
     match p {
-        Plan::Whole(i) => Found::Is(i, n as usize),
-        Plan::Lacks(q) => more(lacking(q), q, rest, n),
-        Plan::Nothing => Found::Unlisted,
+        Some(Plan::Whole(i)) => Ok((i, n as usize)),
+        Some(Plan::Lacks(q)) => more(lacking(q), q, rest, n),
+        None => Err(Fault::Unlisted),
     }
 }
 
-// A word that some code has, where its second byte is 0.
-fn begun(p: Plan) -> Found
+// Of a word whose second byte is 0: some code has it, or none.
+fn begun(p: Option<Plan>) -> Fault
     ensures { result ≡ begun_of p }
 {
     match p {
-        Plan::Whole(_) => Found::Cut,
-        Plan::Lacks(_) => Found::Cut,
-        Plan::Nothing => Found::Unlisted,
+        Some(Plan::Whole(_)) => Fault::Cut,
+        Some(Plan::Lacks(_)) => Fault::Cut,
+        None => Fault::Unlisted,
     }
 }
 
@@ -136,73 +126,61 @@ fn begun(p: Plan) -> Found
 fn two_words(a: u8) -> bool
     ensures { result ≡ two_words a }
 {
-    match a {
-        0x01 => true,
-        0x7C => true,
-        0x7D => true,
-        0x7E => true,
-        0x7F => true,
-        _ => false,
-    }
+    matches!(a, 0x01 | 0x7C..=0x7F)
 }
 
 // A single byte, and the plan of its word with the second byte 0: a byte that begins a code of one word begins one with 0, but for 54.
-fn alone(a: u8, p: Plan) -> Found
+fn alone(a: u8, p: Option<Plan>) -> Fault
     ensures { result ≡ alone_of a p }
 {
-    if two_words(a) {
-        return Found::Cut;
+    if two_words(a) || a == 0x54 {
+        Fault::Cut
+    } else {
+        begun(p)
     }
-    if a == 0x54 { Found::Cut } else { begun(p) }
 }
 
 // 01 and a byte, and nothing more.
-fn prefix_01(b: u8) -> Found
+fn prefix_01(b: u8) -> Fault
     ensures { result ≡ prefix01 b }
 {
     match b {
-        0x00 => Found::Cut,
-        0xC0 => Found::Cut,
-        0xD0 => Found::Cut,
-        0xF0 => Found::Cut,
-        _ => Found::Unlisted,
+        0x00 | 0xC0 | 0xD0 | 0xF0 => Fault::Cut,
+        _ => Fault::Unlisted,
     }
 }
 
 // A code of two words, of which there is the first.
-fn prefix(a: u8, b: u8) -> Found
+fn prefix(a: u8, b: u8) -> Fault
     ensures { result ≡ prefix_of a b }
 {
     if a == 0x01 {
         return prefix_01(b);
     }
     if crate::words::names_byte(a, b) {
-        return Found::Cut;
+        Fault::Cut
+    } else {
+        Fault::Unlisted
     }
-    Found::Unlisted
 }
 
 // Bytes that are fewer than their words: none, one, or two or three of a code of two words.
-fn short(p: Plan, s: &[u8]) -> Found
+fn short(p: Option<Plan>, s: &[u8]) -> Fault
     ensures { result ≡ short_of p s.now }
 {
-    if s.len() == 0 {
-        return Found::Cut;
+    match s {
+        [] => Fault::Cut,
+        [a] => alone(*a, p),
+        [a, b] => prefix(*a, *b),
+        _ => begun(p),
     }
-    if s.len() == 1 {
-        return alone(s[0], p);
-    }
-    if s.len() == 2 {
-        return prefix(s[0], s[1]);
-    }
-    begun(p)
 }
 
 // A byte that is missing counts as 0.
 fn byte_at(s: &[u8], i: usize) -> u8
     ensures { result ≡ get_or s.now i 0 }
 {
-    if i < s.len() { s[i] } else { 0 }
+    s.get(i).copied().unwrap_or(0)
 }
 
 // How many bytes the words have of a code that begins with a.
@@ -212,7 +190,7 @@ fn lead(a: u8) -> u8
     if two_words(a) { 4 } else { 2 }
 }
 
-fn planned(s: &[u8]) -> Plan
+fn planned(s: &[u8]) -> Option<Plan>
     ensures { result ≡ planned_of s.now }
 {
     let a = byte_at(s, 0);
@@ -224,14 +202,14 @@ fn planned(s: &[u8]) -> Plan
 
 // The words are planned before it is known that they are whole. So `first_word`, `second_word` and `finish` are each called
 // in one place, where the compiler puts them in, and no plan is copied through memory.
-pub fn begins(s: &[u8]) -> Found
+pub fn begins(s: &[u8]) -> Result<(Instruction, usize), Fault>
     ensures { result ≡ found_of s.now }
 {
     let n = lead(byte_at(s, 0));
     let p = planned(s);
     let k = n as usize;
     if s.len() < k {
-        return short(p, s);
+        return Err(short(p, s));
     }
     finish(p, &s[k..], n)
 }

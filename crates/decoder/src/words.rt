@@ -1,7 +1,7 @@
 // What a word of a code says. The tables are document 01's, by digits.
 ghost use Rattle.std.specs.Borrow.{Bor};
 ghost use Rattle.std.specs.Prelude.{◌≡◌};
-ghost use Rattle.decoder.specs.MirrorWords.{inc_dec_of, shift_of, unary_of, row0, row1, row5, reads_of, writes_of, reads_part, writes_part, row6, row7, plan_of, after00, after_c0, after_d0, after_f0, after01, names_byte, named_spot, bit_word, memory_bit, after_of};
+ghost use Rattle.decoder.specs.MirrorWords.{inc_dec_of, multiplied, divided, shift_of, unary_of, row0, row1, row5, reads_of, writes_of, row6, row7, plan_of, after00, after_c0, after_d0, after_f0, after01, names_byte, named_spot, bit_word, memory_bit, after_of};
 
 use crate::plan;
 use crate::plan::{Mode, Plan, Rest};
@@ -13,7 +13,7 @@ use codes::{
 use products::Half;
 
 // 0B and 1B
-fn inc_dec(way: Way, b: u8) -> Plan
+fn inc_dec(way: Way, b: u8) -> Option<Plan>
     ensures { result ≡ inc_dec_of way b }
 {
     let d = b % 16;
@@ -25,12 +25,12 @@ fn inc_dec(way: Way, b: u8) -> Plan
         0xD => plan::counted(way, Width::Word, By::Two, d),
         0x7 => plan::counted(way, Width::Long, By::One, d),
         0xF => plan::counted(way, Width::Long, By::Two, d),
-        _ => Plan::Nothing,
+        _ => None,
     }
 }
 
 // 10 to 13
-fn shift(t: Turn, u: Turn, b: u8) -> Plan
+fn shift(t: Turn, u: Turn, b: u8) -> Option<Plan>
     ensures { result ≡ shift_of t u b }
 {
     let d = b % 16;
@@ -41,12 +41,12 @@ fn shift(t: Turn, u: Turn, b: u8) -> Plan
         0x8 => plan::turned(u, Width::Byte, d),
         0x9 => plan::turned(u, Width::Word, d),
         0xB => plan::turned(u, Width::Long, d),
-        _ => Plan::Nothing,
+        _ => None,
     }
 }
 
 // 17
-fn unary(b: u8) -> Plan
+fn unary(b: u8) -> Option<Plan>
     ensures { result ≡ unary_of b }
 {
     let d = b % 16;
@@ -61,22 +61,22 @@ fn unary(b: u8) -> Plan
         0x7 => plan::single(Single::Extu, Width::Long, d),
         0xD => plan::single(Single::Exts, Width::Word, d),
         0xF => plan::single(Single::Exts, Width::Long, d),
-        _ => Plan::Nothing,
+        _ => None,
     }
 }
 
 // First digit 0
-fn row_0(lo: u8, b: u8) -> Plan
+fn row_0(lo: u8, b: u8) -> Option<Plan>
     ensures { result ≡ row0 lo b }
 {
     match lo {
         0x0 => plan::nop(b),
-        0x2 => plan::stc(b),
-        0x3 => plan::ldc(b),
-        0x4 => plan::ccr(Change::Orc, b),
-        0x5 => plan::ccr(Change::Xorc, b),
-        0x6 => plan::ccr(Change::Andc, b),
-        0x7 => plan::ccr(Change::Ldc, b),
+        0x2 => plan::below(b, 16, Plan::Whole(Instruction::Stc(b))),
+        0x3 => plan::below(b, 16, Plan::Whole(Instruction::LdcReg(b))),
+        0x4 => Some(Plan::Whole(Instruction::Ccr(Change::Orc, b))),
+        0x5 => Some(Plan::Whole(Instruction::Ccr(Change::Xorc, b))),
+        0x6 => Some(Plan::Whole(Instruction::Ccr(Change::Andc, b))),
+        0x7 => Some(Plan::Whole(Instruction::Ccr(Change::Ldc, b))),
         0x8 => plan::reg_reg(Op::Add, Width::Byte, b),
         0x9 => plan::reg_reg(Op::Add, Width::Word, b),
         0xA => plan::inc_or_long(Way::Up, Op::Add, b),
@@ -85,12 +85,12 @@ fn row_0(lo: u8, b: u8) -> Plan
         0xD => plan::reg_reg(Op::Mov, Width::Word, b),
         0xE => plan::reg_reg(Op::Addx, Width::Byte, b),
         0xF => plan::decimal_or_long(Way::Up, Op::Mov, b),
-        _ => Plan::Nothing,
+        _ => None,
     }
 }
 
 // First digit 1
-fn row_1(lo: u8, b: u8) -> Plan
+fn row_1(lo: u8, b: u8) -> Option<Plan>
     ensures { result ≡ row1 lo b }
 {
     match lo {
@@ -110,90 +110,92 @@ fn row_1(lo: u8, b: u8) -> Plan
         0xD => plan::reg_reg(Op::Cmp, Width::Word, b),
         0xE => plan::reg_reg(Op::Subx, Width::Byte, b),
         0xF => plan::decimal_or_long(Way::Down, Op::Cmp, b),
-        _ => Plan::Nothing,
+        _ => None,
     }
 }
 
+// These two differ in the constructor alone, which as a parameter would need clauses of its own.
+fn multiply(sign: Sign, h: Half, b: u8) -> Option<Plan>
+    ensures { result ≡ multiplied sign h b }
+{
+    plan::product(h, b, Instruction::Multiply(sign, h, b / 16, b % 16))
+}
+
+fn divide(sign: Sign, h: Half, b: u8) -> Option<Plan>
+    ensures { result ≡ divided sign h b }
+{
+    plan::product(h, b, Instruction::Divide(sign, h, b / 16, b % 16))
+}
+
 // First digit 5
-fn row_5(lo: u8, b: u8) -> Plan
+fn row_5(lo: u8, b: u8) -> Option<Plan>
     ensures { result ≡ row5 lo b }
 {
     match lo {
-        0x0 => plan::multiply(Sign::Unsigned, Half::Eight, b),
-        0x1 => plan::divide(Sign::Unsigned, Half::Eight, b),
-        0x2 => plan::multiply(Sign::Unsigned, Half::Sixteen, b),
-        0x3 => plan::divide(Sign::Unsigned, Half::Sixteen, b),
+        0x0 => multiply(Sign::Unsigned, Half::Eight, b),
+        0x1 => divide(Sign::Unsigned, Half::Eight, b),
+        0x2 => multiply(Sign::Unsigned, Half::Sixteen, b),
+        0x3 => divide(Sign::Unsigned, Half::Sixteen, b),
         0x4 => plan::rts(b),
-        0x5 => Plan::Whole(Instruction::Bsr(Reach::Near(b))),
+        0x5 => Some(Plan::Whole(Instruction::Bsr(Reach::Near(b)))),
         0x8 => plan::bcc_16(b),
-        0x9 => plan::jmp_reg(b),
-        0xA => Plan::Lacks(Rest::Jmp24(b)),
-        0xB => Plan::Whole(Instruction::Jmp(Target::Vector(b))),
+        0x9 => plan::e_zero(b, Plan::Whole(Instruction::Jmp(Target::ByReg(b / 16)))),
+        0xA => Some(Plan::Lacks(Rest::Jmp24(b))),
+        0xB => Some(Plan::Whole(Instruction::Jmp(Target::Vector(b)))),
         0xC => plan::bsr_16(b),
-        0xD => plan::jsr_reg(b),
-        0xE => Plan::Lacks(Rest::Jsr24(b)),
-        0xF => Plan::Whole(Instruction::Jsr(Target::Vector(b))),
-        _ => Plan::Nothing,
+        0xD => plan::e_zero(b, Plan::Whole(Instruction::Jsr(Target::ByReg(b / 16)))),
+        0xE => Some(Plan::Lacks(Rest::Jsr24(b))),
+        0xF => Some(Plan::Whole(Instruction::Jsr(Target::Vector(b)))),
+        _ => None,
     }
 }
 
 // The word of a bit instruction that reads: its bit is in `spot`
-fn reads(c: u8, d: u8, spot: Spot) -> Plan
+fn reads(c: u8, d: u8, spot: Spot) -> Option<Plan>
     ensures { result ≡ reads_of c d spot }
 {
     match c {
-        0x63 => plan::take_by_part(Take::Btst, d, spot),
-        0x73 => plan::take_numbered(Take::Btst, d, spot),
-        0x74 => plan::take_either(Take::Bor, Take::Bior, d, spot),
-        0x75 => plan::take_either(Take::Bxor, Take::Bixor, d, spot),
-        0x76 => plan::take_either(Take::Band, Take::Biand, d, spot),
-        0x77 => plan::take_either(Take::Bld, Take::Bild, d, spot),
-        _ => Plan::Nothing,
+        0x63 => plan::by_part(Take::Btst, d, spot),
+        0x73 => plan::numbered(Take::Btst, d, spot),
+        0x74 => plan::either(Take::Bor, Take::Bior, d, spot),
+        0x75 => plan::either(Take::Bxor, Take::Bixor, d, spot),
+        0x76 => plan::either(Take::Band, Take::Biand, d, spot),
+        0x77 => plan::either(Take::Bld, Take::Bild, d, spot),
+        _ => None,
     }
 }
 
 // and of one that writes
-fn writes(c: u8, d: u8, spot: Spot) -> Plan
+fn writes(c: u8, d: u8, spot: Spot) -> Option<Plan>
     ensures { result ≡ writes_of c d spot }
 {
     match c {
-        0x60 => plan::give_by_part(Give::Bset, d, spot),
-        0x61 => plan::give_by_part(Give::Bnot, d, spot),
-        0x62 => plan::give_by_part(Give::Bclr, d, spot),
-        0x67 => plan::give_either(Give::Bst, Give::Bist, d, spot),
-        0x70 => plan::give_numbered(Give::Bset, d, spot),
-        0x71 => plan::give_numbered(Give::Bnot, d, spot),
-        0x72 => plan::give_numbered(Give::Bclr, d, spot),
-        _ => Plan::Nothing,
+        0x60 => plan::by_part(Give::Bset, d, spot),
+        0x61 => plan::by_part(Give::Bnot, d, spot),
+        0x62 => plan::by_part(Give::Bclr, d, spot),
+        0x67 => plan::either(Give::Bst, Give::Bist, d, spot),
+        0x70 => plan::numbered(Give::Bset, d, spot),
+        0x71 => plan::numbered(Give::Bnot, d, spot),
+        0x72 => plan::numbered(Give::Bclr, d, spot),
+        _ => None,
     }
 }
 
-// in a byte register: the lower digit
-fn reads_part(a: u8, b: u8) -> Plan
-    ensures { result ≡ reads_part a b }
-{
-    reads(a, b, Spot::InPart(b % 16))
-}
-
-fn writes_part(a: u8, b: u8) -> Plan
-    ensures { result ≡ writes_part a b }
-{
-    writes(a, b, Spot::InPart(b % 16))
-}
-
 // First digit 6
-fn row_6(lo: u8, b: u8) -> Plan
+fn row_6(lo: u8, b: u8) -> Option<Plan>
     ensures { result ≡ row6 lo b }
 {
+    // a bit in a byte register: the lower digit
+    let part = Spot::InPart(b % 16);
     match lo {
-        0x0 => writes_part(0x60, b),
-        0x1 => writes_part(0x61, b),
-        0x2 => writes_part(0x62, b),
-        0x3 => reads_part(0x63, b),
+        0x0 => writes(0x60, b, part),
+        0x1 => writes(0x61, b, part),
+        0x2 => writes(0x62, b, part),
+        0x3 => reads(0x63, b, part),
         0x4 => plan::reg_reg(Op::Or, Width::Word, b),
         0x5 => plan::reg_reg(Op::Xor, Width::Word, b),
         0x6 => plan::reg_reg(Op::And, Width::Word, b),
-        0x7 => writes_part(0x67, b),
+        0x7 => writes(0x67, b, part),
         0x8 => plan::memory(Width::Byte, Mode::Plain, b),
         0x9 => plan::memory(Width::Word, Mode::Plain, b),
         0xA => plan::memory(Width::Byte, Mode::Absolute, b),
@@ -202,54 +204,56 @@ fn row_6(lo: u8, b: u8) -> Plan
         0xD => plan::memory(Width::Word, Mode::Stepping, b),
         0xE => plan::memory(Width::Byte, Mode::Displaced, b),
         0xF => plan::memory(Width::Word, Mode::Displaced, b),
-        _ => Plan::Nothing,
+        _ => None,
     }
 }
 
 // First digit 7
-fn row_7(lo: u8, b: u8) -> Plan
+fn row_7(lo: u8, b: u8) -> Option<Plan>
     ensures { result ≡ row7 lo b }
 {
+    // a bit in a byte register: the lower digit
+    let part = Spot::InPart(b % 16);
     match lo {
-        0x0 => writes_part(0x70, b),
-        0x1 => writes_part(0x71, b),
-        0x2 => writes_part(0x72, b),
-        0x3 => reads_part(0x73, b),
-        0x4 => reads_part(0x74, b),
-        0x5 => reads_part(0x75, b),
-        0x6 => reads_part(0x76, b),
-        0x7 => reads_part(0x77, b),
+        0x0 => writes(0x70, b, part),
+        0x1 => writes(0x71, b, part),
+        0x2 => writes(0x72, b, part),
+        0x3 => reads(0x73, b, part),
+        0x4 => reads(0x74, b, part),
+        0x5 => reads(0x75, b, part),
+        0x6 => reads(0x76, b, part),
+        0x7 => reads(0x77, b, part),
         0x9 => plan::imm_16(b),
         0xA => plan::imm_32(b),
-        _ => Plan::Nothing,
+        _ => None,
     }
 }
 
 // The first word of a code that has no second
-pub fn first_word(a: u8, b: u8) -> Plan
+pub fn first_word(a: u8, b: u8) -> Option<Plan>
     ensures { result ≡ plan_of a b }
 {
     let lo = a % 16;
     match a / 16 {
         0 => row_0(lo, b),
         1 => row_1(lo, b),
-        2 => Plan::Whole(Instruction::Move(Dir::Load, Width::Byte, Place::Abs8(b), lo)),
-        3 => Plan::Whole(Instruction::Move(Dir::Store, Width::Byte, Place::Abs8(b), lo)),
-        4 => Plan::Whole(Instruction::Bcc(lo, Reach::Near(b))),
+        2 => Some(Plan::Whole(Instruction::Move(Dir::Load, Width::Byte, Place::Abs8(b), lo))),
+        3 => Some(Plan::Whole(Instruction::Move(Dir::Store, Width::Byte, Place::Abs8(b), lo))),
+        4 => Some(Plan::Whole(Instruction::Bcc(lo, Reach::Near(b)))),
         5 => row_5(lo, b),
         6 => row_6(lo, b),
         7 => row_7(lo, b),
-        _ => Plan::Whole(Instruction::Alu(
-            plan::first_op(a / 16),
+        hi => Some(Plan::Whole(Instruction::Alu(
+            plan::first_op(hi),
             Width::Byte,
             Source::Imm(b as u32),
             lo,
-        )),
+        ))),
     }
 }
 
 // The word after 0100
-fn after_00(c: u8, d: u8) -> Plan
+fn after_00(c: u8, d: u8) -> Option<Plan>
     ensures { result ≡ after00 c d }
 {
     match c {
@@ -257,46 +261,46 @@ fn after_00(c: u8, d: u8) -> Plan
         0x6B => plan::long_memory(Mode::Absolute, d),
         0x6D => plan::long_memory(Mode::Stepping, d),
         0x6F => plan::long_memory(Mode::Displaced, d),
-        _ => Plan::Nothing,
+        _ => None,
     }
 }
 
 // The word after 01C0
-fn after_c0(c: u8, d: u8) -> Plan
+fn after_c0(c: u8, d: u8) -> Option<Plan>
     ensures { result ≡ after_c0 c d }
 {
     match c {
-        0x50 => plan::multiply(Sign::Signed, Half::Eight, d),
-        0x52 => plan::multiply(Sign::Signed, Half::Sixteen, d),
-        _ => Plan::Nothing,
+        0x50 => multiply(Sign::Signed, Half::Eight, d),
+        0x52 => multiply(Sign::Signed, Half::Sixteen, d),
+        _ => None,
     }
 }
 
 // The word after 01D0
-fn after_d0(c: u8, d: u8) -> Plan
+fn after_d0(c: u8, d: u8) -> Option<Plan>
     ensures { result ≡ after_d0 c d }
 {
     match c {
-        0x51 => plan::divide(Sign::Signed, Half::Eight, d),
-        0x53 => plan::divide(Sign::Signed, Half::Sixteen, d),
-        _ => Plan::Nothing,
+        0x51 => divide(Sign::Signed, Half::Eight, d),
+        0x53 => divide(Sign::Signed, Half::Sixteen, d),
+        _ => None,
     }
 }
 
 // The word after 01F0
-fn after_f0(c: u8, d: u8) -> Plan
+fn after_f0(c: u8, d: u8) -> Option<Plan>
     ensures { result ≡ after_f0 c d }
 {
     match c {
         0x64 => plan::long_logic(Op::Or, d),
         0x65 => plan::long_logic(Op::Xor, d),
         0x66 => plan::long_logic(Op::And, d),
-        _ => Plan::Nothing,
+        _ => None,
     }
 }
 
 // The word after 01 and b
-fn after_01(b: u8, c: u8, d: u8) -> Plan
+fn after_01(b: u8, c: u8, d: u8) -> Option<Plan>
     ensures { result ≡ after01 b c d }
 {
     match b {
@@ -304,7 +308,7 @@ fn after_01(b: u8, c: u8, d: u8) -> Plan
         0xC0 => after_c0(c, d),
         0xD0 => after_d0(c, d),
         0xF0 => after_f0(c, d),
-        _ => Plan::Nothing,
+        _ => None,
     }
 }
 
@@ -313,10 +317,8 @@ pub fn names_byte(a: u8, b: u8) -> bool
     ensures { result ≡ names_byte a b }
 {
     match a {
-        0x7C => plan::is_e_zero(b),
-        0x7D => plan::is_e_zero(b),
-        0x7E => true,
-        0x7F => true,
+        0x7C | 0x7D => plan::is_e_zero(b),
+        0x7E | 0x7F => true,
         _ => false,
     }
 }
@@ -332,7 +334,7 @@ fn named_spot(a: u8, b: u8) -> Spot
 
 // Behind 7C and 7E a bit is read, behind 7D and 7F it is written. The two tables are asked in one place for all four, where the
 // compiler puts them in, and no plan goes through memory.
-fn bit_word(a: u8, c: u8, d: u8, spot: Spot) -> Plan
+fn bit_word(a: u8, c: u8, d: u8, spot: Spot) -> Option<Plan>
     ensures { result ≡ bit_word a c d spot }
 {
     if a % 2 == 0 {
@@ -343,22 +345,18 @@ fn bit_word(a: u8, c: u8, d: u8, spot: Spot) -> Plan
 }
 
 // The word after a and b of 7C to 7F: its last digit is 0
-fn memory_bit(a: u8, b: u8, c: u8, d: u8) -> Plan
+fn memory_bit(a: u8, b: u8, c: u8, d: u8) -> Option<Plan>
     ensures { result ≡ memory_bit a b c d }
 {
-    if names_byte(a, b) {
-        if d % 16 == 0 {
-            bit_word(a, c, d, named_spot(a, b))
-        } else {
-            Plan::Nothing
-        }
+    if names_byte(a, b) && d % 16 == 0 {
+        bit_word(a, c, d, named_spot(a, b))
     } else {
-        Plan::Nothing
+        None
     }
 }
 
 // The second word of a code that begins with a and b
-pub fn second_word(a: u8, b: u8, c: u8, d: u8) -> Plan
+pub fn second_word(a: u8, b: u8, c: u8, d: u8) -> Option<Plan>
     ensures { result ≡ after_of a b c d }
 {
     match a {

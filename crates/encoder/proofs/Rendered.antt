@@ -1,4 +1,5 @@
 -- The parts of an instruction, put together, are its code.
+use Rattle.std.specs.Prelude.{Option, Some, None}
 use Prim.Native.Nat.{ℕ, ◌+◌, ◌-◌, ◌/◌, ◌%◌, ◌<◌}
 use mathlib.Core.Path.{◌≡◌, refl, sym, ap, ◌∙◌}
 use mathlib.Core.List.{List, [], ◌∷◌, ◌++◌}
@@ -7,24 +8,24 @@ use native.Mathlib.Nat.{zero-add}
 use Rattle.encoder.specs.Names.{Width, Byte, Word, Long, Op, Add, Sub, Cmp, Mov, Addx, Subx, Or, Xor, And, Reg, Imm, Turn, Shll, Shlr, Rotxl}
 use Rattle.encoder.specs.Names.{Rotxr, Shal, Shar, Rotl, Rotr, Not, Neg, Extu, Exts, Unsigned, Signed, Dir, Place, At, Step, Disp, Abs8, Abs16, Abs24, Near, Far}
 use Rattle.encoder.specs.Names.{ByReg, Direct, Vector, Instruction, Nop, Stc, LdcReg, Ccr, Alu, IncDec, AddsSubs, Decimal, Shift, Unary, Multiply, Divide, Takes, Gives, Move}
-use Rattle.encoder.specs.Names.{Bcc, Jmp, Bsr, Jsr, Rts, Prefix, Bare, Behind, Tail, NoTail, Tail16, Tail32, Parts}
+use Rattle.encoder.specs.Names.{Bcc, Jmp, Bsr, Jsr, Rts, Tail, Bits16, Bits32, Parts}
 use Rattle.encoder.specs.Names.{Index, Numbered, ByPart, Spot, InPart, AtEr, AtAbs}
 use Rattle.codes.specs.Code.{◌·◌, be16, be24, be32, dir_digit, take_byte, take_side, give_byte, give_side, spot_code, bit_code, code_of}
 use Rattle.codes.specs.Valid.{HasReg, Valid}
 use Rattle.encoder.specs.MirrorParts.{spot_parts, bit_parts, parts_of}
 
-abbrev pub tail_bytes : Tail → ℕ → List ℕ
-tail_bytes NoTail v = []
-tail_bytes Tail16 v = be16 v
-tail_bytes Tail32 v = be32 v
+abbrev pub tail_bytes : Option Tail → List ℕ
+tail_bytes None = []
+tail_bytes (Some (Bits16 v)) = be16 v
+tail_bytes (Some (Bits32 v)) = be32 v
 
-abbrev pub prefixed : Prefix → List ℕ → List ℕ
-prefixed Bare s = s
-prefixed (Behind x y) s = x ∷ y ∷ s
+abbrev pub prefixed : Option (ℕ × ℕ) → List ℕ → List ℕ
+prefixed None s = s
+prefixed (Some (x, y)) s = x ∷ y ∷ s
 
 -- the bytes of the parts
 abbrev pub render : Parts → List ℕ
-render h = prefixed h.prefix (h.a ∷ h.b ∷ tail_bytes h.tail h.v)
+render h = prefixed h.prefix (h.a ∷ h.b ∷ tail_bytes h.tail)
 
 -- aa:24 after 00 is a number of 32 bits
 zero24 : (v : ℕ) (l : List ℕ) → v < 0x1000000 → l ++ (0x00 ∷ be24 v) ≡ l ++ be32 v

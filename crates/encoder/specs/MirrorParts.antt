@@ -1,21 +1,21 @@
 -- The parts of a code, case by case as the code of `src/parts.rt` does. Nothing here is to be believed: `proofs/` shows that they are `code_of`.
-use Rattle.std.specs.Prelude.{ℕ, ◌+◌, ◌-◌, ◌/◌, ◌%◌}
+use Rattle.std.specs.Prelude.{ℕ, ◌+◌, ◌-◌, ◌/◌, ◌%◌, Option, Some, None}
 use Rattle.encoder.specs.Names.{Width, Byte, Word, Long, Op, Add, Sub, Cmp, Mov, Addx, Subx, Or, Xor, And, Source, Reg, Imm, Way, By, Turn, Shll}
 use Rattle.encoder.specs.Names.{Shlr, Rotxl, Rotxr, Shal, Shar, Rotl, Rotr, Single, Not, Neg, Extu, Exts, Sign, Unsigned, Signed, Dir, Place, At, Step, Disp, Abs8}
 use Rattle.encoder.specs.Names.{Abs16, Abs24, Reach, Near, Far, Target, ByReg, Direct, Vector, Instruction, Nop, Stc, LdcReg, Ccr, Alu, IncDec}
-use Rattle.encoder.specs.Names.{AddsSubs, Decimal, Shift, Unary, Multiply, Divide, Takes, Gives, Move, Bcc, Jmp, Bsr, Jsr, Rts, Prefix, Bare, Behind, Tail, NoTail, Tail16}
-use Rattle.encoder.specs.Names.{Tail32, Parts, Take, Give, Index, Numbered, ByPart, Spot, InPart, AtEr, AtAbs}
+use Rattle.encoder.specs.Names.{AddsSubs, Decimal, Shift, Unary, Multiply, Divide, Takes, Gives, Move, Bcc, Jmp, Bsr, Jsr, Rts, Tail, Bits16}
+use Rattle.encoder.specs.Names.{Bits32, Parts, Index, Numbered, ByPart, Spot, InPart, AtEr, AtAbs}
 use Rattle.codes.specs.Code.{◌·◌, change_code, way_digit, adds_digit, word_digit, long_digit, digit013, digit89_b, extu_digit, exts_digit, unsigned_multiply, unsigned_divide, first_digit}
 use Rattle.codes.specs.Code.{next_digit, dir_digit, abs8_digit, take_byte, take_side, give_byte, give_side}
 
-abbrev pub mk : Prefix → ℕ → ℕ → Tail → ℕ → Parts
-mk prefix a b tail v = record { prefix = prefix; a = a; b = b; tail = tail; v = v }
+abbrev pub mk : Option (ℕ × ℕ) → ℕ → ℕ → Option Tail → Parts
+mk prefix a b tail = record { prefix = prefix; a = a; b = b; tail = tail }
 
 abbrev pub mk1 : ℕ → ℕ → Parts
-mk1 a b = mk Bare a b NoTail 0
+mk1 a b = mk None a b None
 
 abbrev pub mk2 : ℕ → ℕ → ℕ → ℕ → Parts
-mk2 x y a b = mk (Behind x y) a b NoTail 0
+mk2 x y a b = mk (Some (x, y)) a b None
 
 abbrev pub byte_code : Op → ℕ
 byte_code Add = 0x08
@@ -57,8 +57,8 @@ reg_parts op Long s d = long_parts op s d
 
 abbrev pub imm_parts : Op → Width → ℕ → ℕ → Parts
 imm_parts op Byte v d = mk1 (first_digit op · d) v
-imm_parts op Word v d = mk Bare 0x79 (next_digit op · d) Tail16 v
-imm_parts op Long v d = mk Bare 0x7A (next_digit op · d) Tail32 v
+imm_parts op Word v d = mk None 0x79 (next_digit op · d) (Some (Bits16 v))
+imm_parts op Long v d = mk None 0x7A (next_digit op · d) (Some (Bits32 v))
 
 abbrev pub alu_parts : Op → Width → Source → ℕ → Parts
 alu_parts op w (Reg s) d = reg_parts op w s d
@@ -98,37 +98,31 @@ abbrev pub bit_parts : ℕ → Spot → Index → ℕ → ℕ → Parts
 bit_parts lead spot (Numbered n) byte side = spot_parts lead spot byte side n
 bit_parts lead spot (ByPart r) byte side = spot_parts lead spot (byte - 0x10) 0 r
 
-abbrev pub take_parts : Take → Index → Spot → Parts
-take_parts take index spot = bit_parts 0x7C spot index (take_byte take) (take_side take)
-
-abbrev pub give_parts : Give → Index → Spot → Parts
-give_parts give index spot = bit_parts 0x7D spot index (give_byte give) (give_side give)
-
-abbrev pub place_parts : Prefix → ℕ → Dir → Place → ℕ → Parts
-place_parts prefix more dir (At e) r = mk prefix (0x68 + more) ((dir_digit dir + e) · r) NoTail 0
-place_parts prefix more dir (Abs8 a) r = mk prefix (abs8_digit dir · r) a NoTail 0
-place_parts prefix more dir (Step e) r = mk prefix (0x6C + more) ((dir_digit dir + e) · r) NoTail 0
-place_parts prefix more dir (Disp e d) r = mk prefix (0x6E + more) ((dir_digit dir + e) · r) Tail16 d
-place_parts prefix more dir (Abs16 a) r = mk prefix (0x6A + more) ((dir_digit dir + 0) · r) Tail16 a
-place_parts prefix more dir (Abs24 a) r = mk prefix (0x6A + more) ((dir_digit dir + 2) · r) Tail32 a
+abbrev pub place_parts : Option (ℕ × ℕ) → ℕ → Dir → Place → ℕ → Parts
+place_parts prefix more dir (At e) r = mk prefix (0x68 + more) ((dir_digit dir + e) · r) None
+place_parts prefix more dir (Abs8 a) r = mk prefix (abs8_digit dir · r) a None
+place_parts prefix more dir (Step e) r = mk prefix (0x6C + more) ((dir_digit dir + e) · r) None
+place_parts prefix more dir (Disp e d) r = mk prefix (0x6E + more) ((dir_digit dir + e) · r) (Some (Bits16 d))
+place_parts prefix more dir (Abs16 a) r = mk prefix (0x6A + more) ((dir_digit dir + 0) · r) (Some (Bits16 a))
+place_parts prefix more dir (Abs24 a) r = mk prefix (0x6A + more) ((dir_digit dir + 2) · r) (Some (Bits32 a))
 
 abbrev pub move_parts : Dir → Width → Place → ℕ → Parts
-move_parts dir Byte p r = place_parts Bare 0 dir p r
-move_parts dir Word p r = place_parts Bare 1 dir p r
-move_parts dir Long p r = place_parts (Behind 0x01 0x00) 1 dir p r
+move_parts dir Byte p r = place_parts None 0 dir p r
+move_parts dir Word p r = place_parts None 1 dir p r
+move_parts dir Long p r = place_parts (Some (0x01, 0x00)) 1 dir p r
 
 abbrev pub bcc_parts : ℕ → Reach → Parts
 bcc_parts c (Near d) = mk1 (4 · c) d
-bcc_parts c (Far d) = mk Bare 0x58 (c · 0) Tail16 d
+bcc_parts c (Far d) = mk None 0x58 (c · 0) (Some (Bits16 d))
 
 abbrev pub target_parts : ℕ → Target → Parts
 target_parts more (ByReg e) = mk1 (0x59 + more) (e · 0)
-target_parts more (Direct a) = mk Bare (0x5A + more) (a / 65536) Tail16 (a % 65536)
+target_parts more (Direct a) = mk None (0x5A + more) (a / 65536) (Some (Bits16 (a % 65536)))
 target_parts more (Vector a) = mk1 (0x5B + more) a
 
 abbrev pub bsr_parts : Reach → Parts
 bsr_parts (Near d) = mk1 0x55 d
-bsr_parts (Far d) = mk Bare 0x5C 0x00 Tail16 d
+bsr_parts (Far d) = mk None 0x5C 0x00 (Some (Bits16 d))
 
 abbrev pub parts_of : Instruction → Parts
 parts_of Nop = mk1 0x00 0x00
@@ -143,8 +137,8 @@ parts_of (Shift turn w r) = shift_parts turn w r
 parts_of (Unary single w r) = unary_parts single w r
 parts_of (Multiply sign h s d) = product_parts sign 0xC0 (unsigned_multiply h) (s · d)
 parts_of (Divide sign h s d) = product_parts sign 0xD0 (unsigned_divide h) (s · d)
-parts_of (Takes take index spot) = take_parts take index spot
-parts_of (Gives give index spot) = give_parts give index spot
+parts_of (Takes take index spot) = bit_parts 0x7C spot index (take_byte take) (take_side take)
+parts_of (Gives give index spot) = bit_parts 0x7D spot index (give_byte give) (give_side give)
 parts_of (Move dir w p r) = move_parts dir w p r
 parts_of (Bcc c reach) = bcc_parts c reach
 parts_of (Jmp target) = target_parts 0 target

@@ -39,15 +39,9 @@ pub use Rattle.codes.specs.declared.Instruction.{Instruction}
 pub use Rattle.codes.specs.declared.Instruction.TheVariants.{Nop, Stc, LdcReg, Ccr, Alu, IncDec, AddsSubs, Decimal, Shift, Unary, Multiply, Divide, Takes, Gives, Move, Bcc, Jmp, Bsr, Jsr, Rts}
 pub use Rattle.codes.specs.declared.Goes.{Goes}
 pub use Rattle.codes.specs.declared.Goes.TheVariants.{Onward, Branches, Jumps, CallsNear, Calls, Returns}
-pub use Rattle.codes.specs.declared.Decoded.{Decoded}
-pub use Rattle.codes.specs.declared.Decoded.TheVariants.{Code, NoCode}
-pub use Rattle.codes.specs.declared.Encoded.{Encoded}
-pub use Rattle.codes.specs.declared.Encoded.TheVariants.{Written, NotWritten}
 pub use Rattle.refusal.specs.declared.Refusal.{Refusal}
 pub use Rattle.refusal.specs.declared.Refusal.TheVariants.{UnknownCode, CutShort, NotInstruction, LentTooShort}
 -- and of the encoder's own parts
-pub use Rattle.encoder.specs.declared.parts.Prefix.{Prefix}
-pub use Rattle.encoder.specs.declared.parts.Prefix.TheVariants.{Bare, Behind}
 pub use Rattle.encoder.specs.declared.parts.Tail.{Tail}
-pub use Rattle.encoder.specs.declared.parts.Tail.TheVariants.{NoTail, Tail16, Tail32}
+pub use Rattle.encoder.specs.declared.parts.Tail.TheVariants.{Bits16, Bits32}
 pub use Rattle.encoder.specs.declared.parts.Parts.{Parts}

@@ -1,77 +1,63 @@
 // The parts of an instruction's code, group by group as in the code list.
-ghost use Rattle.std.specs.Prelude.{◌≡◌, ◌+◌, ◌≤◌, ◌<◌};
+ghost use Rattle.std.specs.Prelude.{◌≡◌, ◌+◌, Some, None};
 ghost use Rattle.codes.specs.Code.{◌·◌};
-ghost use Rattle.encoder.specs.MirrorParts.{mk, mk1, mk2, long_parts, reg_parts, imm_parts, alu_parts, inc_dec_parts, shift_parts, unary_parts, product_parts, spot_parts, bit_parts, take_parts, give_parts, place_parts, move_parts, bcc_parts, target_parts, bsr_parts, parts_of};
+ghost use Rattle.encoder.specs.MirrorParts.{mk, mk1, mk2, long_parts, reg_parts, imm_parts, alu_parts, inc_dec_parts, shift_parts, unary_parts, product_parts, spot_parts, bit_parts, place_parts, move_parts, bcc_parts, target_parts, bsr_parts, parts_of};
 
 use crate::tables;
+use crate::tables::Coded;
 use arith::Width;
 use codes::{
-    By, Change, Dir, Give, Index, Instruction, Op, Place, Reach, Sign, Single, Source, Spot, Take,
-    Target, Turn, Way,
+    By, Dir, Index, Instruction, Op, Place, Reach, Sign, Single, Source, Spot, Target, Turn, Way,
 };
 
-// What stands before the word: nothing, or two bytes.
-#[derive(Clone, Copy)]
-pub enum Prefix {
-    Bare,
-    Behind(u32, u32),
-}
-
-// What follows the word: nothing, or a number of 16 or of 32 bits.
+// What follows the word: a number of 16 or of 32 bits.
 #[derive(Clone, Copy)]
 pub enum Tail {
-    NoTail,
-    Tail16,
-    Tail32,
+    Bits16(u32),
+    Bits32(u32),
 }
 
-// A prefix, the two bytes of a word, and the number that follows.
+// Two bytes before the word, the word's two, and what follows it.
 #[derive(Clone, Copy)]
 pub struct Parts {
-    pub prefix: Prefix,
+    pub prefix: Option<(u32, u32)>,
     pub a: u32,
     pub b: u32,
-    pub tail: Tail,
-    pub v: u32,
+    pub tail: Option<Tail>,
 }
 
-fn made(prefix: Prefix, a: u32, b: u32, tail: Tail, v: u32) -> Parts
-    ensures { result ≡ mk prefix a b tail v }
+fn made(prefix: Option<(u32, u32)>, a: u32, b: u32, tail: Option<Tail>) -> Parts
+    ensures { result ≡ mk prefix a b tail }
 {
-    Parts {
-        prefix,
-        a,
-        b,
-        tail,
-        v,
-    }
+    Parts { prefix, a, b, tail }
 }
 
 // A code of one word
 fn one(a: u32, b: u32) -> Parts
     ensures { result ≡ mk1 a b }
 {
-    made(Prefix::Bare, a, b, Tail::NoTail, 0)
+    made(None, a, b, None)
 }
 
 // A code of two words
 fn two(x: u32, y: u32, a: u32, b: u32) -> Parts
     ensures { result ≡ mk2 x y a b }
 {
-    made(Prefix::Behind(x, y), a, b, Tail::NoTail, 0)
+    made(Some((x, y)), a, b, None)
 }
 
-fn wide(x: u8) -> u32
-    ensures { (result ≡ x) × (result < 256) }
+// A word, and the number that follows it
+fn long(a: u32, b: u32, tail: Tail) -> Parts
+    ensures { result ≡ mk None a b (Some tail) }
 {
-    x as u32
+    made(None, a, b, Some(tail))
 }
 
 // The byte of two digits
 fn digits(hi: u8, lo: u8) -> u32
     ensures { result ≡ hi · lo }
 {
-    wide(hi) * 16 + wide(lo)
+    u32::from(hi) * 16 + u32::from(lo)
 }
 
 // A code of one word whose second byte is two digits
@@ -85,7 +71,7 @@ fn word(a: u32, hi: u8, lo: u8) -> Parts
 fn raised(up: u8, hi: u8, lo: u8) -> u32
     ensures { result ≡ (up + hi) · lo }
 {
-    (wide(up) + wide(hi)) * 16 + wide(lo)
+    (u32::from(up) + u32::from(hi)) * 16 + u32::from(lo)
 }
 
 fn long_parts(op: Op, s: u8, d: u8) -> Parts
@@ -121,20 +107,8 @@ fn imm_parts(op: Op, w: Width, v: u32, d: u8) -> Parts
 {
     match w {
         Width::Byte => one(digits(tables::first_digit(op), d), v),
-        Width::Word => made(
-            Prefix::Bare,
-            0x79,
-            digits(tables::next_digit(op), d),
-            Tail::Tail16,
-            v,
-        ),
-        Width::Long => made(
-            Prefix::Bare,
-            0x7A,
-            digits(tables::next_digit(op), d),
-            Tail::Tail32,
-            v,
-        ),
+        Width::Word => long(0x79, digits(tables::next_digit(op), d), Tail::Bits16(v)),
+        Width::Long => long(0x7A, digits(tables::next_digit(op), d), Tail::Bits32(v)),
     }
 }
 
@@ -203,66 +177,51 @@ fn spot_parts(lead: u8, spot: Spot, byte: u32, side: u8, digit: u8) -> Parts
 {
     match spot {
         Spot::InPart(d) => one(byte, raised(side, digit, d)),
-        Spot::AtEr(e) => two(wide(lead), digits(e, 0), byte, raised(side, digit, 0)),
-        Spot::AtAbs(a) => two(wide(lead) + 2, wide(a), byte, raised(side, digit, 0)),
+        Spot::AtEr(e) => two(u32::from(lead), digits(e, 0), byte, raised(side, digit, 0)),
+        Spot::AtAbs(a) => two(
+            u32::from(lead) + 2,
+            u32::from(a),
+            byte,
+            raised(side, digit, 0),
+        ),
     }
 }
 
-// The bit's number with the digit that inverts, or the register's digit and a byte of 10 less
-fn bit_parts(lead: u8, spot: Spot, index: Index, byte: u32, side: u8) -> Parts
-    requires { 0x10 ≤ byte }
-    ensures { result ≡ bit_parts lead spot index byte side }
+// The bit's number with the digit that inverts, or the register's digit and a byte of 10 less. 7C stands before one that reads, 7D before
+// one that writes.
+fn bit_parts<K: Coded>(lead: u8, kind: K, index: Index, spot: Spot) -> Parts
+    ensures { result ≡ bit_parts lead spot index (K.byte kind) (K.side kind) }
 {
     match index {
-        Index::Numbered(n) => spot_parts(lead, spot, byte, side, n),
-        Index::ByPart(r) => spot_parts(lead, spot, byte - 0x10, 0, r),
+        Index::Numbered(n) => spot_parts(lead, spot, kind.byte(), kind.side(), n),
+        Index::ByPart(r) => spot_parts(lead, spot, kind.byte() - 0x10, 0, r),
     }
-}
-
-// 7C stands before one that reads, 7D before one that writes
-fn take_parts(take: Take, index: Index, spot: Spot) -> Parts
-    ensures { result ≡ take_parts take index spot }
-{
-    bit_parts(
-        0x7C,
-        spot,
-        index,
-        tables::take_byte(take),
-        tables::take_side(take),
-    )
-}
-
-fn give_parts(give: Give, index: Index, spot: Spot) -> Parts
-    ensures { result ≡ give_parts give index spot }
-{
-    bit_parts(
-        0x7D,
-        spot,
-        index,
-        tables::give_byte(give),
-        tables::give_side(give),
-    )
 }
 
 // The first byte for a byte, and 1 more for a word or a long
-fn place_parts(prefix: Prefix, more: u8, dir: Dir, p: Place, r: u8) -> Parts
+fn place_parts(prefix: Option<(u32, u32)>, more: u8, dir: Dir, p: Place, r: u8) -> Parts
     ensures { result ≡ place_parts prefix more dir p r }
 {
     let k = tables::dir_digit(dir);
-    let m = wide(more);
+    let m = u32::from(more);
     match p {
-        Place::At(e) => made(prefix, 0x68 + m, raised(k, e, r), Tail::NoTail, 0),
+        Place::At(e) => made(prefix, 0x68 + m, raised(k, e, r), None),
         Place::Abs8(a) => made(
             prefix,
             digits(tables::abs8_digit(dir), r),
-            wide(a),
-            Tail::NoTail,
-            0,
+            u32::from(a),
+            None,
         ),
-        Place::Step(e) => made(prefix, 0x6C + m, raised(k, e, r), Tail::NoTail, 0),
-        Place::Disp(e, d) => made(prefix, 0x6E + m, raised(k, e, r), Tail::Tail16, d as u32),
-        Place::Abs16(a) => made(prefix, 0x6A + m, raised(k, 0, r), Tail::Tail16, a as u32),
-        Place::Abs24(a) => made(prefix, 0x6A + m, raised(k, 2, r), Tail::Tail32, a),
+        Place::Step(e) => made(prefix, 0x6C + m, raised(k, e, r), None),
+        Place::Disp(e, d) => {
+            let tail = Tail::Bits16(u32::from(d));
+            made(prefix, 0x6E + m, raised(k, e, r), Some(tail))
+        }
+        Place::Abs16(a) => {
+            let tail = Tail::Bits16(u32::from(a));
+            made(prefix, 0x6A + m, raised(k, 0, r), Some(tail))
+        }
+        Place::Abs24(a) => made(prefix, 0x6A + m, raised(k, 2, r), Some(Tail::Bits32(a))),
     }
 }
 
@@ -270,9 +229,9 @@ fn move_parts(dir: Dir, w: Width, p: Place, r: u8) -> Parts
     ensures { result ≡ move_parts dir w p r }
 {
     match w {
-        Width::Byte => place_parts(Prefix::Bare, 0, dir, p, r),
-        Width::Word => place_parts(Prefix::Bare, 1, dir, p, r),
-        Width::Long => place_parts(Prefix::Behind(0x01, 0x00), 1, dir, p, r),
+        Width::Byte => place_parts(None, 0, dir, p, r),
+        Width::Word => place_parts(None, 1, dir, p, r),
+        Width::Long => place_parts(Some((0x01, 0x00)), 1, dir, p, r),
     }
 }
 
@@ -280,8 +239,8 @@ fn bcc_parts(c: u8, reach: Reach) -> Parts
     ensures { result ≡ bcc_parts c reach }
 {
     match reach {
-        Reach::Near(d) => one(digits(4, c), wide(d)),
-        Reach::Far(d) => made(Prefix::Bare, 0x58, digits(c, 0), Tail::Tail16, d as u32),
+        Reach::Near(d) => one(digits(4, c), u32::from(d)),
+        Reach::Far(d) => long(0x58, digits(c, 0), Tail::Bits16(u32::from(d))),
     }
 }
 
@@ -290,15 +249,9 @@ fn target_parts(more: u8, target: Target) -> Parts
     ensures { result ≡ target_parts more target }
 {
     match target {
-        Target::ByReg(e) => one(0x59 + wide(more), digits(e, 0)),
-        Target::Direct(a) => made(
-            Prefix::Bare,
-            0x5A + wide(more),
-            a / 65536,
-            Tail::Tail16,
-            a % 65536,
-        ),
-        Target::Vector(a) => one(0x5B + wide(more), wide(a)),
+        Target::ByReg(e) => one(0x59 + u32::from(more), digits(e, 0)),
+        Target::Direct(a) => long(0x5A + u32::from(more), a / 65536, Tail::Bits16(a % 65536)),
+        Target::Vector(a) => one(0x5B + u32::from(more), u32::from(a)),
     }
 }
 
@@ -306,8 +259,8 @@ fn bsr_parts(reach: Reach) -> Parts
     ensures { result ≡ bsr_parts reach }
 {
     match reach {
-        Reach::Near(d) => one(0x55, wide(d)),
-        Reach::Far(d) => made(Prefix::Bare, 0x5C, 0x00, Tail::Tail16, d as u32),
+        Reach::Near(d) => one(0x55, u32::from(d)),
+        Reach::Far(d) => long(0x5C, 0x00, Tail::Bits16(u32::from(d))),
     }
 }
 
@@ -318,7 +271,7 @@ pub fn parts_of(i: Instruction) -> Parts
         Instruction::Nop => one(0x00, 0x00),
         Instruction::Stc(r) => word(0x02, 0, r),
         Instruction::LdcReg(r) => word(0x03, 0, r),
-        Instruction::Ccr(change, v) => one(tables::change_code(change), wide(v)),
+        Instruction::Ccr(change, v) => one(tables::change_code(change), u32::from(v)),
         Instruction::Alu(op, w, source, d) => alu_parts(op, w, source, d),
         Instruction::IncDec(way, w, by, r) => inc_dec_parts(way, w, by, r),
         Instruction::AddsSubs(way, by, e) => word(
@@ -343,8 +296,8 @@ pub fn parts_of(i: Instruction) -> Parts
             s,
             d,
         ),
-        Instruction::Takes(take, index, spot) => take_parts(take, index, spot),
-        Instruction::Gives(give, index, spot) => give_parts(give, index, spot),
+        Instruction::Takes(take, index, spot) => bit_parts(0x7C, take, index, spot),
+        Instruction::Gives(give, index, spot) => bit_parts(0x7D, give, index, spot),
         Instruction::Move(dir, w, p, r) => move_parts(dir, w, p, r),
         Instruction::Bcc(c, reach) => bcc_parts(c, reach),
         Instruction::Jmp(target) => target_parts(0, target),

@@ -1,8 +1,10 @@
-// The bytes and digits of the code list's tables, in its order. Where there is no code they have 0.
+// The bytes and digits of the code list's tables, in its order. Where there is no code they have 0. A type has several of them, so none is
+// the type's own `From`.
 ghost use Rattle.std.specs.Borrow.{Bor};
-ghost use Rattle.std.specs.Prelude.{◌≡◌, ◌≤◌};
+ghost use Rattle.std.specs.Prelude.{◌≡◌, ◌≤◌, ℕ, Bool};
 ghost use Rattle.codes.specs.Code.{change_code, way_digit, adds_digit, word_digit, long_digit, digit013, digit89_b, extu_digit, exts_digit, unsigned_multiply, unsigned_divide, take_byte, take_side, give_byte, give_side, first_digit, next_digit, dir_digit, abs8_digit};
 ghost use Rattle.encoder.specs.MirrorParts.{byte_code, word_code};
+ghost use Rattle.encoder.specs.MirrorValid.{takes_part, gives_part};
 
 use arith::Width;
 use codes::{By, Change, Dir, Give, Op, Take, Way};
@@ -43,8 +45,7 @@ pub fn word_code(op: Op) -> u32
         Op::Sub => 0x19,
         Op::Cmp => 0x1D,
         Op::Mov => 0x0D,
-        Op::Addx => 0,
-        Op::Subx => 0,
+        Op::Addx | Op::Subx => 0,
         Op::Or => 0x64,
         Op::Xor => 0x65,
         Op::And => 0x66,
@@ -78,8 +79,7 @@ pub fn next_digit(op: Op) -> u8
         Op::Or => 4,
         Op::Xor => 5,
         Op::And => 6,
-        Op::Addx => 0,
-        Op::Subx => 0,
+        Op::Addx | Op::Subx => 0,
     }
 }
 
@@ -180,59 +180,81 @@ pub fn unsigned_divide(h: Half) -> u32
     }
 }
 
-pub fn take_byte(take: Take) -> u32
-    ensures { (result ≡ take_byte take) × (0x10 ≤ result) }
-{
-    match take {
-        Take::Btst => 0x73,
-        Take::Bor => 0x74,
-        Take::Bior => 0x74,
-        Take::Bxor => 0x75,
-        Take::Bixor => 0x75,
-        Take::Band => 0x76,
-        Take::Biand => 0x76,
-        Take::Bld => 0x77,
-        Take::Bild => 0x77,
+// What the code list has of a bit instruction.
+pub trait Coded: Copy {
+    ghost byte: { Self → ℕ };
+
+    ghost side: { Self → ℕ };
+
+    ghost by_part: { Self → Bool };
+
+    // The byte of a bit's number in the code.
+    fn byte(self) -> u32
+        ensures { (result ≡ byte self) × (0x10 ≤ result) };
+
+    // What is added to that number.
+    fn side(self) -> u8
+        ensures { result ≡ side self };
+
+    // Whether a register may hold the number.
+    fn by_part(self) -> bool
+        ensures { result ≡ by_part self };
+}
+
+impl Coded for Take {
+    ghost byte = { take_byte };
+
+    ghost side = { take_side };
+
+    ghost by_part = { takes_part };
+
+    fn byte(self) -> u32 {
+        match self {
+            Take::Btst => 0x73,
+            Take::Bor | Take::Bior => 0x74,
+            Take::Bxor | Take::Bixor => 0x75,
+            Take::Band | Take::Biand => 0x76,
+            Take::Bld | Take::Bild => 0x77,
+        }
+    }
+
+    fn side(self) -> u8 {
+        match self {
+            Take::Btst | Take::Bor | Take::Bxor | Take::Band | Take::Bld => 0,
+            Take::Bior | Take::Bixor | Take::Biand | Take::Bild => 8,
+        }
+    }
+
+    fn by_part(self) -> bool {
+        matches!(self, Take::Btst)
     }
 }
 
-pub fn take_side(take: Take) -> u8
-    ensures { result ≡ take_side take }
-{
-    match take {
-        Take::Btst => 0,
-        Take::Bor => 0,
-        Take::Bior => 8,
-        Take::Bxor => 0,
-        Take::Bixor => 8,
-        Take::Band => 0,
-        Take::Biand => 8,
-        Take::Bld => 0,
-        Take::Bild => 8,
-    }
-}
+impl Coded for Give {
+    ghost byte = { give_byte };
 
-pub fn give_byte(give: Give) -> u32
-    ensures { (result ≡ give_byte give) × (0x10 ≤ result) }
-{
-    match give {
-        Give::Bset => 0x70,
-        Give::Bnot => 0x71,
-        Give::Bclr => 0x72,
-        Give::Bst => 0x67,
-        Give::Bist => 0x67,
-    }
-}
+    ghost side = { give_side };
 
-pub fn give_side(give: Give) -> u8
-    ensures { result ≡ give_side give }
-{
-    match give {
-        Give::Bset => 0,
-        Give::Bnot => 0,
-        Give::Bclr => 0,
-        Give::Bst => 0,
-        Give::Bist => 8,
+    ghost by_part = { gives_part };
+
+    fn byte(self) -> u32 {
+        match self {
+            Give::Bset => 0x70,
+            Give::Bnot => 0x71,
+            Give::Bclr => 0x72,
+            Give::Bst | Give::Bist => 0x67,
+        }
+    }
+
+    fn side(self) -> u8 {
+        match self {
+            Give::Bset | Give::Bnot | Give::Bclr | Give::Bst => 0,
+            Give::Bist => 8,
+        }
+    }
+
+    fn by_part(self) -> bool {
+        matches!(self, Give::Bset | Give::Bnot | Give::Bclr)
     }
 }
 

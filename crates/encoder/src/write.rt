@@ -2,8 +2,7 @@
 ghost use Rattle.std.specs.Prelude.{◌≡◌, ◌+◌, ◌≤◌, length};
 ghost use Rattle.encoder.specs.MirrorWrite.{set2, set4, start_of, tail_size, size_of, prefix_set, tail_set, write_of, answer_of, left_of};
 
-use crate::parts::{Parts, Prefix, Tail};
-use codes::Encoded;
+use crate::parts::{Parts, Tail};
 use refusal::Refusal;
 
 fn put2(out: &mut [u8], at: usize, x: u32, y: u32)
@@ -23,51 +22,45 @@ fn put4(out: &mut [u8], at: usize, v: u32)
 }
 
 // Where the word stands
-fn start_of(prefix: Prefix) -> u8
+fn start_of(prefix: Option<(u32, u32)>) -> u8
     ensures { (result ≡ start_of prefix) × (result ≤ 2) }
 {
-    match prefix {
-        Prefix::Bare => 0,
-        Prefix::Behind(_, _) => 2,
-    }
+    if prefix.is_some() { 2 } else { 0 }
 }
 
-fn tail_size(tail: Tail) -> u8
+fn tail_size(tail: Option<Tail>) -> u8
     ensures { (result ≡ tail_size tail) × (result ≤ 4) }
 {
     match tail {
-        Tail::NoTail => 0,
-        Tail::Tail16 => 2,
-        Tail::Tail32 => 4,
+        None => 0,
+        Some(Tail::Bits16(_)) => 2,
+        Some(Tail::Bits32(_)) => 4,
     }
 }
 
 fn size_of(h: Parts) -> u8
     ensures { result ≡ size_of h }
 {
-    let prefix = h.prefix;
-    let tail = h.tail;
-    start_of(prefix) + 2 + tail_size(tail)
+    start_of(h.prefix) + 2 + tail_size(h.tail)
 }
 
-fn put_prefix(out: &mut [u8], prefix: Prefix)
+fn put_prefix(out: &mut [u8], prefix: Option<(u32, u32)>)
     requires { start_of prefix ≤ length out.old }
     ensures { out.new ≡ prefix_set out.old prefix }
 {
-    match prefix {
-        Prefix::Bare => {}
-        Prefix::Behind(x, y) => put2(out, 0, x, y),
+    if let Some((x, y)) = prefix {
+        put2(out, 0, x, y);
     }
 }
 
-fn put_tail(out: &mut [u8], at: usize, tail: Tail, v: u32)
+fn put_tail(out: &mut [u8], at: usize, tail: Option<Tail>)
     requires { at + tail_size tail ≤ length out.old }
-    ensures { out.new ≡ tail_set out.old at tail v }
+    ensures { out.new ≡ tail_set out.old at tail }
 {
     match tail {
-        Tail::NoTail => {}
-        Tail::Tail16 => put2(out, at, v / 256, v),
-        Tail::Tail32 => put4(out, at, v),
+        None => {}
+        Some(Tail::Bits16(v)) => put2(out, at, v / 256, v),
+        Some(Tail::Bits32(v)) => put4(out, at, v),
     }
 }
 
@@ -75,22 +68,20 @@ fn write(h: Parts, out: &mut [u8])
     requires { size_of h ≤ length out.old }
     ensures { out.new ≡ write_of h out.old }
 {
-    let prefix = h.prefix;
-    let tail = h.tail;
-    let at = start_of(prefix) as usize;
-    put_prefix(out, prefix);
+    let at = start_of(h.prefix) as usize;
+    put_prefix(out, h.prefix);
     put2(out, at, h.a, h.b);
-    put_tail(out, at + 2, tail, h.v)
+    put_tail(out, at + 2, h.tail)
 }
 
 // The code, if it has room; else nothing changes, and the answer has the needed length.
-pub fn put(h: Parts, out: &mut [u8]) -> Encoded
+pub fn put(h: Parts, out: &mut [u8]) -> Result<usize, Refusal>
     ensures { (result ≡ answer_of h out.old) × (out.new ≡ left_of h out.old) }
 {
     let n = size_of(h);
     if out.len() < n as usize {
-        return Encoded::NotWritten(Refusal::LentTooShort(n as u32));
+        return Err(Refusal::LentTooShort(n as u32));
     }
     write(h, out);
-    Encoded::Written(n as usize)
+    Ok(n as usize)
 }

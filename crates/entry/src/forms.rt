@@ -1,6 +1,6 @@
 // The entries of one form each, from its operands.
 ghost use Rattle.std.specs.Prelude.{◌≡◌, ◌+◌, ◌*◌, ◌<◌};
-ghost use Rattle.entry.specs.Entry.{made, digits_of, factors, reg_entry, imm_entry, alu_entry, shift_entry, unary_entry, move_entry, bcc_entry, jmp_entry, bsr_entry, jsr_entry, index_number, bit_entry};
+ghost use Rattle.entry.specs.Entry.{made, digits_of, factors, reg_entry, imm_entry, alu_entry, shift_entry, unary_entry, move_entry, bcc_entry, target_entry, bsr_entry, index_number, bit_entry};
 
 use crate::numbers;
 use arith::Width;
@@ -8,6 +8,7 @@ use codes::{Dir, Index, Op, Place, Reach, Single, Source, Spot, Target, Turn};
 use products::Half;
 
 // kind k, variant v, operands x
+#[tactic(auto, unfolding(crate::specs::Entry::made))]
 pub fn build(k: u8, v: u8, x: u64) -> u64
     requires { x < 2199023255552 }
     ensures { result ≡ made k v x }
@@ -15,26 +16,23 @@ pub fn build(k: u8, v: u8, x: u64) -> u64
     k as u64 * 16 + v as u64 + 512 * x
 }
 
-// two digits of registers
-fn by_16(s: u8, d: u8) -> u64
-    ensures { (result ≡ s * 16 + d) × (result < 4352) }
+// Two digits of registers, which are 8 for a long.
+fn pair(w: Width, s: u8, d: u8) -> u64
+    ensures { (result ≡ s * digits_of w + d) × (result < 4352) }
 {
-    s as u64 * 16 + d as u64
-}
-
-fn by_8(s: u8, d: u8) -> u64
-    ensures { (result ≡ s * 8 + d) × (result < 4352) }
-{
-    s as u64 * 8 + d as u64
+    match w {
+        Width::Byte | Width::Word => s as u64 * 16 + d as u64,
+        Width::Long => s as u64 * 8 + d as u64,
+    }
 }
 
 fn reg_entry(op: Op, w: Width, s: u8, d: u8) -> u64
     ensures { result ≡ reg_entry op w s d }
 {
     match w {
-        Width::Byte => build(0, numbers::op_number(op), by_16(s, d)),
-        Width::Word => build(1, numbers::op_number(op), by_16(s, d)),
-        Width::Long => build(2, numbers::op_number(op), by_8(s, d)),
+        Width::Byte => build(0, op as u8, pair(w, s, d)),
+        Width::Word => build(1, op as u8, pair(w, s, d)),
+        Width::Long => build(2, op as u8, pair(w, s, d)),
     }
 }
 
@@ -42,9 +40,9 @@ fn imm_entry(op: Op, w: Width, v: u32, d: u8) -> u64
     ensures { result ≡ imm_entry op w v d }
 {
     match w {
-        Width::Byte => build(3, numbers::op_number(op), d as u64 * 256 + v as u64),
-        Width::Word => build(4, numbers::op_number(op), d as u64 * 65536 + v as u64),
-        Width::Long => build(5, numbers::op_number(op), d as u64 * 4294967296 + v as u64),
+        Width::Byte => build(3, op as u8, d as u64 * 256 + v as u64),
+        Width::Word => build(4, op as u8, d as u64 * 65536 + v as u64),
+        Width::Long => build(5, op as u8, d as u64 * 4294967296 + v as u64),
     }
 }
 
@@ -82,21 +80,7 @@ pub fn unary_entry(single: Single, w: Width, d: u8) -> u64
 pub fn factors_of(h: Half, s: u8, d: u8) -> u64
     ensures { (result ≡ factors h s d) × (result < 4352) }
 {
-    match h {
-        Half::Eight => by_16(s, d),
-        Half::Sixteen => by_8(s, d),
-    }
-}
-
-// A pointer and a register, whose digits are 8 for a long.
-fn pair(w: Width, e: u8, r: u8) -> u64
-    ensures { (result ≡ e * digits_of w + r) × (result < 4352) }
-{
-    match w {
-        Width::Byte => by_16(e, r),
-        Width::Word => by_16(e, r),
-        Width::Long => by_8(e, r),
-    }
+    pair(products::product_width(h), s, d)
 }
 
 pub fn move_entry(dir: Dir, w: Width, p: Place, r: u8) -> u64
@@ -123,13 +107,15 @@ pub fn bcc_entry(c: u8, reach: Reach) -> u64
     }
 }
 
-pub fn jmp_entry(target: Target) -> u64
-    ensures { result ≡ jmp_entry target }
+// The variants of JMP begin with 0, those of JSR with 5.
+pub fn target_entry(first: u8, target: Target) -> u64
+    requires { first < 14 }
+    ensures { result ≡ target_entry first target }
 {
     match target {
-        Target::ByReg(e) => build(15, 0, e as u64),
-        Target::Direct(a) => build(15, 1, a as u64),
-        Target::Vector(a) => build(15, 2, a as u64),
+        Target::ByReg(e) => build(15, first, e as u64),
+        Target::Direct(a) => build(15, first + 1, a as u64),
+        Target::Vector(a) => build(15, first + 2, a as u64),
     }
 }
 
@@ -139,16 +125,6 @@ pub fn bsr_entry(reach: Reach) -> u64
     match reach {
         Reach::Near(d) => build(15, 3, d as u64),
         Reach::Far(d) => build(15, 4, d as u64),
-    }
-}
-
-pub fn jsr_entry(target: Target) -> u64
-    ensures { result ≡ jsr_entry target }
-{
-    match target {
-        Target::ByReg(e) => build(15, 5, e as u64),
-        Target::Direct(a) => build(15, 6, a as u64),
-        Target::Vector(a) => build(15, 7, a as u64),
     }
 }
 

@@ -20,6 +20,7 @@ pub fn unheld(group: u8) -> u64
 }
 
 // The entry of an instruction. One that is not valid has an entry too, of no meaning.
+#[tactic(auto, unfolding(crate::specs::Entry::pack_of))]
 pub fn pack(i: Instruction) -> u64
     ensures { result ≡ pack_of i }
 {
@@ -52,23 +53,13 @@ pub fn pack(i: Instruction) -> u64
             numbers::product_number(sign, h) + 4,
             forms::factors_of(h, s, d),
         ),
-        Instruction::Takes(take, index, spot) => forms::bit_entry(
-            16,
-            numbers::take_number(take),
-            index,
-            spot,
-        ),
-        Instruction::Gives(give, index, spot) => forms::bit_entry(
-            17,
-            numbers::give_number(give),
-            index,
-            spot,
-        ),
+        Instruction::Takes(take, index, spot) => forms::bit_entry(16, take as u8, index, spot),
+        Instruction::Gives(give, index, spot) => forms::bit_entry(17, give as u8, index, spot),
         Instruction::Move(dir, w, p, r) => forms::move_entry(dir, w, p, r),
         Instruction::Bcc(c, reach) => forms::bcc_entry(c, reach),
-        Instruction::Jmp(target) => forms::jmp_entry(target),
+        Instruction::Jmp(target) => forms::target_entry(0, target),
         Instruction::Bsr(reach) => forms::bsr_entry(reach),
-        Instruction::Jsr(target) => forms::jsr_entry(target),
+        Instruction::Jsr(target) => forms::target_entry(5, target),
         Instruction::Rts => forms::build(9, 13, 0),
     }
 }

@@ -2,9 +2,8 @@
 // some are alike: what is called once the compiler puts into that loop, for the width that is written out; what is called twice, and is long, it does not.
 #![tactic(auto)]
 
-ghost use Rattle.std.specs.Prelude.{◌≡◌, cond};
+ghost use Rattle.std.specs.Prelude.{◌≡◌, cond, Ok};
 ghost use Rattle.arith.specs.declared.Width.TheVariants.{Byte, Word, Long};
-ghost use Rattle.refusal.specs.declared.Outcome.TheVariants.{Done};
 ghost use Rattle.flow.specs.Targets.{target_of};
 ghost use Rattle.operate.specs.MirrorLent.{Operates};
 ghost use Rattle.turns.specs.MirrorTurn.{turn, Turns};
@@ -269,7 +268,7 @@ pub fn turned_long(k: u8, x: u64, pc: u32, er: &mut [u32; 8], f: Condition) -> T
 
 // A target is reckoned where the branch is taken: else the next instruction would wait for the flags.
 fn branch(taken: bool, next: u32, reach: Reach, n: u32, f: Condition) -> Turn
-    ensures { result ≡ turn f (cond taken (target_of next reach) next) n Done }
+    ensures { result ≡ turn f (cond taken (target_of next reach) next) n (Ok tt) }
 {
     if taken {
         turns::done(f, flow::target(next, reach), n)

@@ -1,5 +1,6 @@
 -- The answer by the entry's row, and that `Figured` leaves one answer and one table.
 -- Assumes nothing.
+use Rattle.std.specs.Prelude.{Result, Ok, Err}
 use mathlib.Core.Path.{◌≡◌, refl, sym, subst, ap, ◌∙◌}
 use mathlib.Core.Logic.{◌⊎◌, inl, inr, ◌↔◌, ⊎_elim}
 use mathlib.Core.List.{List}
@@ -29,10 +30,6 @@ use Rattle.paths.proofs.Rows.{why_is}
 use Rattle.levels.specs.Levels.{Filled, fitting}
 use Rattle.listing.specs.Listing.{flow_at}
 use Rattle.listing.proofs.Listed.{listing}
-use Rattle.figure.specs.declared.Asked.{Asked}
-use Rattle.figure.specs.declared.Asked.TheVariants.{Fit, Unfit}
-use Rattle.figure.specs.declared.Verdict.{Verdict}
-use Rattle.figure.specs.declared.Verdict.TheVariants.{Longest, Forbids}
 use Rattle.figure.specs.Answer.{good_entry, asked_of, Told, longest, too_long, forbids, InOrder, Figured, RefusedExactly}
 use Rattle.figure.specs.MirrorFigure.{why_at, figure_of, verdict_of}
 
@@ -51,11 +48,11 @@ right : (x y : Bool) → (x && y) ≡ true → y ≡ true
 right true y e = e
 right false y e = absurd (let z : ◌≡◌ {A = ℕ} 0 1 = cc in omega arith)
 
-pub fit_good : (k : Site) (len lent entry : ℕ) → asked_of k len lent entry ≡ Fit → Good k len lent entry
+pub fit_good : (k : Site) (len lent entry : ℕ) → asked_of k len lent entry ≡ Ok tt → Good k len lent entry
 unfolding asked_of
 fit_good k len lent entry e = go (could_carry k len) refl (good_entry len entry) refl (leb len lent) refl e
   where
-    go : (a : Bool) → could_carry k len ≡ a → (b : Bool) → good_entry len entry ≡ b → (c : Bool) → leb len lent ≡ c → cond a (cond b (cond c Fit (Unfit (LentTooShort len))) (Unfit (BadEntry entry))) (Unfit BadBoard) ≡ Fit → Good k len lent entry
+    go : (a : Bool) → could_carry k len ≡ a → (b : Bool) → good_entry len entry ≡ b → (c : Bool) → leb len lent ≡ c → cond a (cond b (cond c (Ok (tt {0})) (Err (LentTooShort len))) (Err (BadEntry entry))) (Err BadBoard) ≡ Ok (tt {0}) → Good k len lent entry
     go true x true y true z i = record {
       carried = x;
       entry_even = eqb-true (entry % 2) 0 (left (eqb (entry % 2) 0) (ltb entry len) y);
@@ -94,7 +91,7 @@ pub good_fitting : {k : Site} {len lent entry : ℕ} → Good k len lent entry �
 unfolding fitting
 good_fitting {k} {len} {lent} {entry} g = simp (eq-eqb (len % 2) 0 (even k len g.carried), le-leb len 524288 (small k len g.carried), le-leb len lent g.room, eq-eqb (entry % 2) 0 g.entry_even)
 
-module _ (flow : ℕ → Flow) (len : ℕ) (L : Listing flow len) where
+module _ (flow : ℕ → Result Flow Refusal) (len : ℕ) (L : Listing flow len) where
   -- the lowest forbidden place is forbidden by what is said of it
   pub why_lowest : {d f : ℕ} {r : Refusal} → IsPlace f → Forbidden flow d f r → why_at flow f ≡ r
   unfolding why_at
@@ -117,22 +114,22 @@ module _ (flow : ℕ → Flow) (len : ℕ) (L : Listing flow len) where
 
 -- by the refusals for bad input, and else by the entry's row and the filled table
 module _ (k : Site) (rom : List ℕ) where
-  pub figured_unfit : (entry : ℕ) (t : List ℕ) (f : Refusal) → asked_of k (length rom) (length t) entry ≡ Unfit f → Figured k rom entry t (Forbids f) t
+  pub figured_unfit : (entry : ℕ) (t : List ℕ) (f : Refusal) → asked_of k (length rom) (length t) entry ≡ Err f → Figured k rom entry t (Err f) t
   figured_unfit entry t f e = record { in_order = rw e (refl, refl) }
 
   pub good_listing : Bytes rom → {lent entry : ℕ} → Good k (length rom) lent entry → Listing (flow_at k rom) (length rom)
   good_listing b g = listing k rom b (even k (length rom) g.carried) (small k (length rom) g.carried)
 
-  pub figured_fit : Bytes rom → (entry : ℕ) (t after : List ℕ) (r : Reckoned) → asked_of k (length rom) (length t) entry ≡ Fit → HeldIs (flow_at k rom) 8 entry r → Filled (flow_at k rom) (length rom) t after
+  pub figured_fit : Bytes rom → (entry : ℕ) (t after : List ℕ) (r : Reckoned) → asked_of k (length rom) (length t) entry ≡ Ok tt → HeldIs (flow_at k rom) 8 entry r → Filled (flow_at k rom) (length rom) t after
       → Figured k rom entry t (verdict_of (flow_at k rom) entry r) after
   figured_fit b entry t after r e h f =
       let g = fit_good k (length rom) (length t) entry e in
       record { in_order = rw e (told_row (flow_at k rom) (length rom) (good_listing b g) (good_place g) h, f) }
 
 -- one answer, and one table
-module _ (flow : ℕ → Flow) where
-  told_one : {len entry : ℕ} {r r' : Verdict} → Listing flow len → IsPlace entry → Told flow entry r → Told flow entry r' → r ≡ r'
-  told_one L z (longest c) (longest c') = ap Longest (largest_one flow c.largest c'.largest)
+module _ (flow : ℕ → Result Flow Refusal) where
+  told_one : {len entry : ℕ} {r r' : Result ℕ Refusal} → Listing flow len → IsPlace entry → Told flow entry r → Told flow entry r' → r ≡ r'
+  told_one L z (longest c) (longest c') = ap Ok (largest_one flow c.largest c'.largest)
   told_one L z (longest c) (too_long v) = absurd (figure_over flow c v)
   told_one L z (longest c) (forbids w b) = absurd (c.clear _ w.met)
   told_one L z (too_long v) (longest c) = absurd (figure_over flow c v)
@@ -142,7 +139,7 @@ module _ (flow : ℕ → Flow) where
   told_one L z (forbids w b) (too_long v) = absurd (v.clear _ w.met)
   told_one {len} L z (forbids {f = f} w b) (forbids {d = d} {f = g} {r = s} w' b') =
       let e : f ≡ g = lowest_one flow w w' in
-      ap Forbids (forbidden_one flow len L (meets_place flow len L z w.met) b (subst (λ (x : ℕ). Forbidden flow d x s) (sym e) b'))
+      ap Err (forbidden_one flow len L (meets_place flow len L z w.met) b (subst (λ (x : ℕ). Forbidden flow d x s) (sym e) b'))
 
   filled_one : {len : ℕ} {before a b : List ℕ} → len % 2 ≡ 0 → Filled flow len before a → Filled flow len before b → a ≡ b
   filled_one {len} {before} {a} {b} even f g =
@@ -157,22 +154,22 @@ module _ (flow : ℕ → Flow) where
           odd : 0 < i % 2 → i - 1 + 1 ≡ i
           odd z = omega arith
 
-  in_order_one : (x : Asked) (len entry : ℕ) (t : List ℕ) {r r' : Verdict} {a a' : List ℕ} → (x ≡ Fit → Listing flow len × IsPlace entry)
+  in_order_one : (x : Result (Unit {0}) Refusal) (len entry : ℕ) (t : List ℕ) {r r' : Result ℕ Refusal} {a a' : List ℕ} → (x ≡ Ok tt → Listing flow len × IsPlace entry)
       → InOrder x flow len entry t r a → InOrder x flow len entry t r' a' → (r ≡ r') × (a ≡ a')
-  in_order_one (Unfit f) len entry t fit p q = (p.0 ∙ sym q.0, p.1 ∙ sym q.1)
-  in_order_one Fit len entry t fit p q = let x = fit refl in (told_one x.0 x.1 p.0 q.0, filled_one x.0.even_length p.1 q.1)
+  in_order_one (Err f) len entry t fit p q = (p.0 ∙ sym q.0, p.1 ∙ sym q.1)
+  in_order_one (Ok tt) len entry t fit p q = let x = fit refl in (told_one x.0 x.1 p.0 q.0, filled_one x.0.even_length p.1 q.1)
 
   -- refused exactly when a path meets a forbidden place, or the total is above 1,000,000,000
-  told_exactly : {entry : ℕ} {r : Verdict} → Told flow entry r → ((f : Refusal) × (r ≡ Forbids f)) ↔ (((f : ℕ) × Meets flow 8 entry f) ⊎ Over flow entry)
+  told_exactly : {entry : ℕ} {r : Result ℕ Refusal} → Told flow entry r → ((f : Refusal) × (r ≡ Err f)) ↔ (((f : ℕ) × Meets flow 8 entry f) ⊎ Over flow entry)
   told_exactly (longest c) = ((λ x. absurd (let z : ◌≡◌ {A = ℕ} 0 1 = cc x.1 in omega arith)), (λ x. ⊎_elim (λ y. absurd (c.clear y.0 y.1)) (λ v. absurd (figure_over flow c v)) x))
   told_exactly {entry} (too_long v) = ((λ x. inr v), (λ x. (TooLong entry, refl)))
   told_exactly (forbids {f = f} {r = r} w b) = ((λ x. inl (f, w.met)), (λ x. (r, refl)))
 
-pub figured_one : {k : Site} {rom : List ℕ} {entry : ℕ} {t : List ℕ} {r r' : Verdict} {a a' : List ℕ} → Bytes rom → Figured k rom entry t r a → Figured k rom entry t r' a'
+pub figured_one : {k : Site} {rom : List ℕ} {entry : ℕ} {t : List ℕ} {r r' : Result ℕ Refusal} {a a' : List ℕ} → Bytes rom → Figured k rom entry t r a → Figured k rom entry t r' a'
     → (r ≡ r') × (a ≡ a')
 figured_one {k} {rom} {entry} {t} b p q =
     in_order_one (flow_at k rom) (asked_of k (length rom) (length t) entry) (length rom) entry t
     (λ e. let g = fit_good k (length rom) (length t) entry e in (good_listing k rom b g, good_place g)) p.in_order q.in_order
 
-pub exactly : {k : Site} {rom : List ℕ} {entry : ℕ} {t : List ℕ} {r : Verdict} {a : List ℕ} → Figured k rom entry t r a → RefusedExactly k rom entry t r
+pub exactly : {k : Site} {rom : List ℕ} {entry : ℕ} {t : List ℕ} {r : Result ℕ Refusal} {a : List ℕ} → Figured k rom entry t r a → RefusedExactly k rom entry t r
 exactly {k} {rom} p e = told_exactly (flow_at k rom) (rw e at p.in_order).0

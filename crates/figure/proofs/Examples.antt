@@ -1,5 +1,6 @@
 -- Document 01's marked examples 10 to 12: the answer and the whole table. That nothing else satisfies `Figured` is `figured_one`.
 -- Assumes nothing.
+use Rattle.std.specs.Prelude.{Ok, Err}
 use mathlib.Core.Path.{◌≡◌, refl, sym, ◌∙◌}
 use mathlib.Core.List.{List, [], ◌∷◌}
 use Prim.Native.Nat.{ℕ, zero, suc, ◌+◌, ◌%◌, ◌≤◌, ◌<◌}
@@ -20,8 +21,6 @@ use Rattle.paths.proofs.Rows.{PlainFrom, plain_down, plain_rows}
 use Rattle.levels.specs.Levels.{Filled}
 use Rattle.listing.specs.Listing.{branch_flow, goes_flow, found_flow, decoded_at, flow_at}
 use Rattle.listing.proofs.Listed.{listing}
-use Rattle.figure.specs.declared.Asked.TheVariants.{Fit}
-use Rattle.figure.specs.declared.Verdict.TheVariants.{Longest, Forbids}
 use Rattle.figure.specs.Answer.{asked_of, Figured}
 use Rattle.figure.specs.MirrorFigure.{why_at, figure_of, verdict_of}
 use Rattle.figure.proofs.Answered.{figured_unfit, figured_fit}
@@ -47,7 +46,7 @@ module _ (rom : List ℕ) (bytes : Bytes rom) (even : length rom % 2 ≡ 0) (sma
   fills before e h R = record { same_length = e; rows = plain_rows (flow_at bare rom) (length rom) (listing bare rom bytes even small) t R; rest = h }
 
   figures : (before : List ℕ) (entry : ℕ) → length t ≡ length before → ((i : ℕ) → length rom ≤ i → get_or t i 0 ≡ get_or before i 0) → Plain 0 → entry % 2 ≡ 0 → entry < length rom
-      → asked_of bare (length rom) (length before) entry ≡ Fit → Figured bare rom entry before (verdict_of (flow_at bare rom) entry (record { figure = get_or t entry 0; low = get_or t (entry + 1) 0 })) t
+      → asked_of bare (length rom) (length before) entry ≡ Ok tt → Figured bare rom entry before (verdict_of (flow_at bare rom) entry (record { figure = get_or t entry 0; low = get_or t (entry + 1) 0 })) t
   figures before entry e h R x y fit = figured_fit bare rom bytes entry before t _ fit (R entry (omega arith) x y).0 (fills before e h R)
 
 -- two tables of n numbers are alike past them
@@ -73,24 +72,24 @@ plain10 =
     let d = down code10 bytes10 refl (lit≤ tt) table10 in
     d 0 refl (lit< tt) (λ q e. e) refl (lit≤ tt) (d 2 refl (lit< tt) (λ q e. e) refl (lit≤ tt) (d 4 refl (lit< tt) (λ q e. e) refl (lit≤ tt) (above code10 bytes10 refl (lit≤ tt) table10 6 (lit≤ tt))))
 
-pub example10 : Figured bare code10 0 sevens (Longest 16) table10
+pub example10 : Figured bare code10 0 sevens (Ok 16) table10
 unfolding asked_of could_carry figure_of verdict_of
 example10 = figures code10 bytes10 refl (lit≤ tt) table10 sevens 0 refl (past table10 sevens 6 (lit≤ tt) (lit≤ tt)) plain10 refl (lit< tt) refl
 
 -- the same from the entry 2
-pub example10_2 : Figured bare code10 2 sevens (Longest 12) table10
+pub example10_2 : Figured bare code10 2 sevens (Ok 12) table10
 unfolding asked_of could_carry figure_of verdict_of
 example10_2 = figures code10 bytes10 refl (lit≤ tt) table10 sevens 2 refl (past table10 sevens 6 (lit≤ tt) (lit≤ tt)) plain10 refl (lit< tt) refl
 
 -- an address that is no place of that memory
-pub high_entry : Figured bare code10 16777216 sevens (Forbids (BadEntry 16777216)) sevens
+pub high_entry : Figured bare code10 16777216 sevens (Err (BadEntry 16777216)) sevens
 unfolding asked_of could_carry
 high_entry = figured_unfit bare code10 16777216 sevens (BadEntry 16777216) refl
 
 -- a memory of one instruction that calls nothing, whose row is x and y
 one_row : (a b x y : ℕ) (rest : List ℕ) (bytes : Bytes (a ∷ b ∷ [])) → ((q : ℕ) → Enters (flow_at bare (a ∷ b ∷ []) 0) q → ⊥)
     → reckoned_of (row_of 2 (x ∷ y ∷ rest)) (row_of 2 (x ∷ y ∷ rest)) 8 0 (flow_at bare (a ∷ b ∷ []) 0) ≡ record { figure = x; low = y } → x ≤ 1000000000
-    → asked_of bare 2 (length (7 ∷ 7 ∷ rest)) 0 ≡ Fit → Figured bare (a ∷ b ∷ []) 0 (7 ∷ 7 ∷ rest) (verdict_of (flow_at bare (a ∷ b ∷ [])) 0 (record { figure = x; low = y })) (x ∷ y ∷ rest)
+    → asked_of bare 2 (length (7 ∷ 7 ∷ rest)) 0 ≡ Ok tt → Figured bare (a ∷ b ∷ []) 0 (7 ∷ 7 ∷ rest) (verdict_of (flow_at bare (a ∷ b ∷ [])) 0 (record { figure = x; low = y })) (x ∷ y ∷ rest)
 one_row a b x y rest bytes calm i small fit =
     figures (a ∷ b ∷ []) bytes refl (lit≤ tt) (x ∷ y ∷ rest) (7 ∷ 7 ∷ rest) 0 refl alike
     (down (a ∷ b ∷ []) bytes refl (lit≤ tt) (x ∷ y ∷ rest) 0 refl (lit< tt) calm i small (above (a ∷ b ∷ []) bytes refl (lit≤ tt) (x ∷ y ∷ rest) 2 (lit≤ tt))) refl (lit< tt) fit
@@ -101,16 +100,16 @@ one_row a b x y rest bytes calm i small fit =
     alike (suc (suc i)) h = refl
 
 -- example 11: 40FE, refusal 10 at 0
-pub example11 : Figured bare (0x40 ∷ 0xFE ∷ []) 0 (7 ∷ 7 ∷ []) (Forbids (NotUpward 0)) (0 ∷ 0 ∷ [])
+pub example11 : Figured bare (0x40 ∷ 0xFE ∷ []) 0 (7 ∷ 7 ∷ []) (Err (NotUpward 0)) (0 ∷ 0 ∷ [])
 unfolding flow_at found_flow goes_flow branch_flow decoded_at most_of base_of most_at dearest_of signed_of target_of row_of total_of joined upward_of reckoned_of asked_of could_carry figure_of verdict_of why_at why_of
 example11 = one_row 0x40 0xFE 0 0 [] (omega arith) (λ q e. e) refl (lit≤ tt) refl
 
 -- example 12: 0B50 alone, refusal 2 at 2; table 0, 2, and what stands past it stays
-pub example12 : Figured bare (0x0B ∷ 0x50 ∷ []) 0 (7 ∷ 7 ∷ 9 ∷ []) (Forbids (FetchOutside 2)) (0 ∷ 2 ∷ 9 ∷ [])
+pub example12 : Figured bare (0x0B ∷ 0x50 ∷ []) 0 (7 ∷ 7 ∷ 9 ∷ []) (Err (FetchOutside 2)) (0 ∷ 2 ∷ 9 ∷ [])
 unfolding flow_at found_flow goes_flow branch_flow decoded_at most_of base_of most_at dearest_of signed_of target_of row_of total_of joined upward_of reckoned_of asked_of could_carry figure_of verdict_of why_at why_of
 example12 = one_row 0x0B 0x50 0 2 (9 ∷ []) (omega arith) (λ q e. e) refl (lit≤ tt) refl
 
 -- 4080: a branch back below 0 goes to a place above it, outside: refusal 2 there, and not 10
-pub wrapped : Figured bare (0x40 ∷ 0x80 ∷ []) 0 (7 ∷ 7 ∷ []) (Forbids (FetchOutside 16777090)) (0 ∷ 16777090 ∷ [])
+pub wrapped : Figured bare (0x40 ∷ 0x80 ∷ []) 0 (7 ∷ 7 ∷ []) (Err (FetchOutside 16777090)) (0 ∷ 16777090 ∷ [])
 unfolding flow_at found_flow goes_flow branch_flow decoded_at most_of base_of most_at dearest_of signed_of target_of row_of total_of joined upward_of reckoned_of asked_of could_carry figure_of verdict_of why_at why_of
 wrapped = one_row 0x40 0x80 0 16777090 [] (omega arith) (λ q e. e) refl (lit≤ tt) refl

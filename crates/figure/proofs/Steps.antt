@@ -1,4 +1,5 @@
 -- A step of the processor goes where the paths of its listing go, by the few cases of where PC can go; and it has one answer. Assumes nothing.
+use Rattle.std.specs.Prelude.{Result, Ok, Err}
 use mathlib.Core.Path.{◌≡◌, refl, sym, subst, ◌∙◌, ap}
 use mathlib.Core.Logic.{◌⊎◌, inl, inr}
 use mathlib.Core.Bool.{Bool, true, false, cond, xor}
@@ -11,14 +12,12 @@ use lib.ListN.{length, drop}
 use borrow.Author.Tests.{eq-eqb, eqb-true, lt-ltb, ltb-true, ltb-false, le-leb, lt-leb}
 use Rattle.refusal.specs.declared.Refusal.{Refusal}
 use Rattle.refusal.specs.declared.Refusal.TheVariants.{FetchOutside, NotFollowed}
-use Rattle.refusal.specs.declared.Outcome.TheVariants.{Done}
 use Rattle.codes.specs.States.{goes_of}
 use Rattle.codes.specs.Exact.{Bytes}
 use Rattle.codes.specs.declared.Instruction.{Instruction}
 use Rattle.codes.specs.declared.Goes.{Goes}
 use Rattle.codes.specs.declared.Goes.TheVariants.{Onward, Branches, Jumps, CallsNear, Calls, Returns}
 use Rattle.codes.specs.declared.Target.TheVariants.{ByReg, Direct, Vector}
-use Rattle.codes.specs.declared.Decoded.TheVariants.{Code}
 use Rattle.codes.proofs.Laws.{bytes_drop}
 use Rattle.decoder.proofs.Laws.{code_read}
 use Rattle.flow.specs.Targets.{next_of, target_of}
@@ -31,14 +30,13 @@ use Rattle.timing.specs.Made.{most_of}
 use Rattle.timing.proofs.Printed.{most_printed}
 use Rattle.memory.specs.Board.{good_board}
 use Rattle.memory.specs.declared.Board.{Board}
-use Rattle.memory.specs.declared.Got.TheVariants.{Value}
 use Rattle.moves.specs.Made.{states_at}
 use Rattle.moves.proofs.States.{never_more, printed}
 use Rattle.step.specs.Follow.{even_condition, holds_of, aim_of, follow_of}
 use Rattle.step.specs.Step.{After, after, answered, good_pc, fetch_of, step_of}
 use Rattle.step.proofs.Laws as Laws
 use Rattle.step.proofs.Laws.{Comes, outside, no_code, completes, comes, step_is}
-use Rattle.paths.specs.declared.Flow.TheVariants.{Next, Jump, Either, Stop}
+use Rattle.paths.specs.declared.Flow.TheVariants.{Next, Jump, Either}
 use Rattle.paths.specs.Paths.{IsPlace, Leads, Enters, count_of}
 use Rattle.paths.proofs.Kept.{Stepped, back_home, onward, entered, by_data}
 use Rattle.listing.specs.Listing.{branch_flow, jump_flow, call_flow, goes_flow, found_flow, decoded_at, flow_at}
@@ -55,6 +53,12 @@ always : (f : Condition) → holds_of 0 f ≡ true
 unfolding holds_of even_condition xor
 always f = refl
 
+-- what is found is one instruction, of one length
+pub same_found : {i j : Instruction} {n m : ℕ} → ◌≡◌ {A = Result (Instruction × ℕ) Refusal} (Ok (i, n)) (Ok (j, m)) → (i ≡ j) × (n ≡ m)
+same_found {i} {j} {n} {m} e =
+    let q : ◌≡◌ {A = Instruction × ℕ} (i, n) (j, m) = cc in
+    (ap (λ (x : Instruction × ℕ). x.0) q, ap (λ (x : Instruction × ℕ). x.1) q)
+
 never : (f : Condition) → holds_of 1 f ≡ false
 unfolding holds_of even_condition xor
 never f = refl
@@ -65,21 +69,21 @@ module _ (f : Condition) (c n t k p : ℕ) (n-stays : n % 2 ^ 24 / 2 * 2 ≡ n) 
   by_condition true e = inr (rw e t-stays)
   by_condition false e = inl (rw e n-stays)
 
-  by_digit : (x y : Bool) → eqb c 0 ≡ x → eqb c 1 ≡ y → p ≡ cond (holds_of c f) t n → Leads (cond x (Jump t k) (cond y (Next n k) (Either n t k))) (p % 2 ^ 24 / 2 * 2)
+  by_digit : (x y : Bool) → eqb c 0 ≡ x → eqb c 1 ≡ y → p ≡ cond (holds_of c f) t n → Leads (Ok (cond x (Jump t k) (cond y (Next n k) (Either n t k)))) (p % 2 ^ 24 / 2 * 2)
   by_digit true y ex ey e = let z : c ≡ 0 = eqb-true c 0 ex in let h : p ≡ t = e ∙ rw (z, always f) in rw h t-stays
   by_digit false true ex ey e = let z : c ≡ 1 = eqb-true c 1 ey in let h : p ≡ n = e ∙ rw (z, never f) in rw h n-stays
   by_digit false false ex ey e = by_condition (holds_of c f) e
 
-  branch_leads : p ≡ cond (holds_of c f) t n → Leads (branch_flow c n t k) (p % 2 ^ 24 / 2 * 2)
+  branch_leads : p ≡ cond (holds_of c f) t n → Leads (Ok (branch_flow c n t k)) (p % 2 ^ 24 / 2 * 2)
   unfolding branch_flow
   branch_leads e = by_digit _ _ refl refl e
 
-branch_count : (n t k : ℕ) (x y : Bool) → k ≤ count_of (cond x (Jump t k) (cond y (Next n k) (Either n t k)))
+branch_count : (n t k : ℕ) (x y : Bool) → k ≤ count_of (Ok (cond x (Jump t k) (cond y (Next n k) (Either n t k))))
 branch_count n t k true y = le_refl k
 branch_count n t k false true = le_refl k
 branch_count n t k false false = le_refl k
 
-branch_plain : (n t k u : ℕ) (x y : Bool) → Enters (cond x (Jump t k) (cond y (Next n k) (Either n t k))) u → ⊥
+branch_plain : (n t k u : ℕ) (x y : Bool) → Enters (Ok (cond x (Jump t k) (cond y (Next n k) (Either n t k)))) u → ⊥
 branch_plain n t k u true y e = e
 branch_plain n t k u false true e = e
 branch_plain n t k u false false e = e
@@ -102,7 +106,7 @@ module _ (k : Site) (b : Board) (on : Carrying k b) (rom : List ℕ) (bytes : By
     pc = s.regs.pc
 
     -- where the instruction at PC goes, if PC goes where the listing says
-    module _ (i : Instruction) (n : ℕ) (inside : pc < length rom) (d : decoded_at rom pc ≡ Code i n) (z : IsPlace pc) where
+    module _ (i : Instruction) (n : ℕ) (inside : pc < length rom) (d : decoded_at rom pc ≡ Ok (i, n)) (z : IsPlace pc) where
       next : ℕ
       next = next_of pc n
 
@@ -114,8 +118,8 @@ module _ (k : Site) (b : Board) (on : Carrying k b) (rom : List ℕ) (bytes : By
       unfolding decoded_at
       next_even = omega (arith, z.even, (code_read pc (drop pc rom) i n (bytes_drop pc rom bytes) d).sized.even)
 
-      leads : (g : Goes) → ((f : Refusal) → goes_flow pc (next_of pc n) (most_of k i) g ≡ Stop f → ⊥) → (Calling g → ⊥) → (g ≡ Returns → ⊥) → (p : ℕ)
-          → follow_of r b rom s.mem g (next_of pc n) ≡ Value p → Leads (goes_flow pc (next_of pc n) (most_of k i) g) (p % 2 ^ 24 / 2 * 2)
+      leads : (g : Goes) → ((f : Refusal) → goes_flow pc (next_of pc n) (most_of k i) g ≡ Err f → ⊥) → (Calling g → ⊥) → (g ≡ Returns → ⊥) → (p : ℕ)
+          → follow_of r b rom s.mem g (next_of pc n) ≡ Ok p → Leads (goes_flow pc (next_of pc n) (most_of k i) g) (p % 2 ^ 24 / 2 * 2)
       unfolding goes_flow follow_of jump_flow aim_of
       leads Onward free calm out p e = let h : p ≡ next_of pc n = cc in rw h (place_stays (next_of pc n) next_even (omega arith))
       leads (Branches c reach) free calm out p e =
@@ -130,8 +134,8 @@ module _ (k : Site) (b : Board) (on : Carrying k b) (rom : List ℕ) (bytes : By
       leads Returns free calm out p e = absurd (out refl)
 
       -- a call that is followed enters its target, and leads where it pushes
-      enters : (g : Goes) → ((f : Refusal) → goes_flow pc (next_of pc n) (most_of k i) g ≡ Stop f → ⊥) → Calling g → (p : ℕ)
-          → follow_of r b rom s.mem g (next_of pc n) ≡ Value p → Enters (goes_flow pc (next_of pc n) (most_of k i) g) (p % 2 ^ 24 / 2 * 2) × Leads (goes_flow pc (next_of pc n) (most_of k i) g) (next_of pc n)
+      enters : (g : Goes) → ((f : Refusal) → goes_flow pc (next_of pc n) (most_of k i) g ≡ Err f → ⊥) → Calling g → (p : ℕ)
+          → follow_of r b rom s.mem g (next_of pc n) ≡ Ok p → Enters (goes_flow pc (next_of pc n) (most_of k i) g) (p % 2 ^ 24 / 2 * 2) × Leads (goes_flow pc (next_of pc n) (most_of k i) g) (next_of pc n)
       unfolding goes_flow follow_of call_flow aim_of
       enters Onward free calls p e = absurd calls
       enters (Branches c reach) free calls p e = absurd calls
@@ -157,14 +161,14 @@ module _ (k : Site) (b : Board) (on : Carrying k b) (rom : List ℕ) (bytes : By
       -- RTS stands at PC exactly if the instruction there returns
       returns_not : (goes_of i ≡ Returns → ⊥) → (processor b rom).AtReturn s → ⊥
       unfolding decoded_at
-      returns_not out (j, m, e, g) = let h : i ≡ j = cc in out (rw h g)
+      returns_not out (j, m, e, g) = let h : i ≡ j = (same_found (sym d ∙ e)).0 in out (rw h g)
 
       -- a call does exactly if it calls
       pushes_not : (Calling (goes_of i) → ⊥) → (a : ℕ) → (processor b rom).Pushes s a → ⊥
       unfolding decoded_at
-      pushes_not calm a (j, m, e, c, h) = let z : j ≡ i = cc in calm (subst (λ (x : Instruction). Calling (goes_of x)) z c)
+      pushes_not calm a (j, m, e, c, h) = let z : j ≡ i = (same_found (sym e ∙ d)).0 in calm (subst (λ (x : Instruction). Calling (goes_of x)) z c)
 
-      counts : (g : Goes) → ((f : Refusal) → goes_flow pc (next_of pc n) (most_of k i) g ≡ Stop f → ⊥) → most_of k i ≤ count_of (goes_flow pc (next_of pc n) (most_of k i) g)
+      counts : (g : Goes) → ((f : Refusal) → goes_flow pc (next_of pc n) (most_of k i) g ≡ Err f → ⊥) → most_of k i ≤ count_of (goes_flow pc (next_of pc n) (most_of k i) g)
       unfolding goes_flow jump_flow call_flow branch_flow
       counts Onward free = le_refl (most_of k i)
       counts (Branches c reach) free = branch_count (next_of pc n) (target_of (next_of pc n) reach) (most_of k i) (eqb c 0) (eqb c 1)
@@ -178,7 +182,7 @@ module _ (k : Site) (b : Board) (on : Carrying k b) (rom : List ℕ) (bytes : By
       counts Returns free = le_refl (most_of k i)
 
       module _ (p : ℕ) (q : Registers) (m : List ℕ) (same : length m ≡ length s.mem) (kept : Kept s)
-          (free : (f : Refusal) → flow_at k rom pc ≡ Stop f → ⊥) (step : step_of b rom s.mem r ≡ after (answered (with_pc q p) (states_at b.site r i) Done) m) where
+          (free : (f : Refusal) → flow_at k rom pc ≡ Err f → ⊥) (step : step_of b rom s.mem r ≡ after (answered (with_pc q p) (states_at b.site r i) (Ok tt)) m) where
         -- the listing is the instruction's
         here : (g : Goes) → goes_of i ≡ g → flow_at k rom pc ≡ goes_flow pc (next_of pc n) (most_of k i) g
         here g h = flow_is ∙ ap (λ (x : Goes). goes_flow pc (next_of pc n) (most_of k i) x) h
@@ -187,16 +191,16 @@ module _ (k : Site) (b : Board) (on : Carrying k b) (rom : List ℕ) (bytes : By
         after_kept : Kept (record { regs = with_pc q p; mem = m })
         after_kept = (rw same kept.0, record { even = omega arith; in_range = omega arith })
 
-        free_at : (g : Goes) → goes_of i ≡ g → (f : Refusal) → goes_flow pc (next_of pc n) (most_of k i) g ≡ Stop f → ⊥
+        free_at : (g : Goes) → goes_of i ≡ g → (f : Refusal) → goes_flow pc (next_of pc n) (most_of k i) g ≡ Err f → ⊥
         free_at g h f x = free f (here g h ∙ x)
 
-        goes_on : (g : Goes) → goes_of i ≡ g → (Calling g → ⊥) → (g ≡ Returns → ⊥) → follow_of r b rom s.mem g (next_of pc n) ≡ Value p → Stepped (processor b rom) Kept (flow_at k rom pc) s
+        goes_on : (g : Goes) → goes_of i ≡ g → (Calling g → ⊥) → (g ≡ Returns → ⊥) → follow_of r b rom s.mem g (next_of pc n) ≡ Ok p → Stepped (processor b rom) Kept (flow_at k rom pc) s
         goes_on g h calm out e =
             rw (here g h)
             (onward {t = record { regs = with_pc q p; mem = m }} (returns_not (λ x. out (sym h ∙ x))) (pushes_not (λ x. calm (rw h at x))) step after_kept (plain g calm) (leads g (free_at g h) calm out p e) (takes b.site r i)
             (omega (arith, within k b on r i, counts g (free_at g h))))
 
-        called : (g : Goes) → goes_of i ≡ g → Calling g → (g ≡ Returns → ⊥) → follow_of r b rom s.mem g (next_of pc n) ≡ Value p → Stepped (processor b rom) Kept (flow_at k rom pc) s
+        called : (g : Goes) → goes_of i ≡ g → Calling g → (g ≡ Returns → ⊥) → follow_of r b rom s.mem g (next_of pc n) ≡ Ok p → Stepped (processor b rom) Kept (flow_at k rom pc) s
         unfolding decoded_at
         called g h calls out e =
             let w = enters g (free_at g h) calls p e in
@@ -204,7 +208,7 @@ module _ (k : Site) (b : Board) (on : Carrying k b) (rom : List ℕ) (bytes : By
             (entered {t = record { regs = with_pc q p; mem = m }} {k = next_of pc n} (returns_not (λ x. out (sym h ∙ x))) (i, n, d, rw h calls, refl) step after_kept w.1 w.0 (takes b.site r i)
             (omega (arith, within k b on r i, counts g (free_at g h))))
 
-        completed : (g : Goes) → goes_of i ≡ g → follow_of r b rom s.mem g (next_of pc n) ≡ Value p → Stepped (processor b rom) Kept (flow_at k rom pc) s
+        completed : (g : Goes) → goes_of i ≡ g → follow_of r b rom s.mem g (next_of pc n) ≡ Ok p → Stepped (processor b rom) Kept (flow_at k rom pc) s
         unfolding goes_flow decoded_at
         completed Onward h e = goes_on Onward h (λ x. x) (λ x. let z : ◌≡◌ {A = ℕ} 0 1 = cc in omega arith) e
         completed (Branches c reach) h e = goes_on (Branches c reach) h (λ x. x) (λ x. let z : ◌≡◌ {A = ℕ} 0 1 = cc in omega arith) e
@@ -213,7 +217,7 @@ module _ (k : Site) (b : Board) (on : Carrying k b) (rom : List ℕ) (bytes : By
         completed (Calls t) h e = called (Calls t) h tt (λ x. let z : ◌≡◌ {A = ℕ} 0 1 = cc in omega arith) e
         completed Returns h e = back_home {t = record { regs = with_pc q p; mem = m }} (i, n, d, h) (pushes_not (λ x. rw h at x)) step after_kept (here Returns h) (takes b.site r i) (within k b on r i)
 
-    module _ (kept : Kept s) (free : (f : Refusal) → flow_at k rom pc ≡ Stop f → ⊥) where
+    module _ (kept : Kept s) (free : (f : Refusal) → flow_at k rom pc ≡ Err f → ⊥) where
       come : (a : After) → Comes r b rom s.mem a → step_of b rom s.mem r ≡ a → Stepped (processor b rom) Kept (flow_at k rom pc) s
       unfolding flow_at found_flow decoded_at
       come a (outside l) e = absurd (free (FetchOutside pc) (rw (le-leb (length rom) pc (ltb-false pc (length rom) l))))

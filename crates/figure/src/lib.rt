@@ -9,128 +9,115 @@ ghost use Rattle.figure.specs.Bound.{RunsKept};
 ghost use Rattle.figure.specs.MirrorFigure.{why_at, figure_of, verdict_of, no_way_of, on_from, way_of};
 ghost use Rattle.figure.specs.Longest.{WayTold};
 
-use paths::{Reckoned, WayOn};
+use paths::{Filled, Reckoned};
 use refusal::Refusal;
 use site::Site;
-
-// The figure, or a refusal.
-#[derive(Clone, Copy)]
-pub enum Verdict {
-    Longest(u64),
-    Forbids(Refusal),
-}
-
-// Whether the site, the memory, the entry and the lent table are fit to be looked at: refusals 1, 8 and 13.
-#[derive(Clone, Copy)]
-pub enum Asked {
-    Fit,
-    Unfit(Refusal),
-}
 
 const NONE: u64 = 16777215;
 
 const LIMIT: u64 = 1000000000;
 
-fn look(k: Site, rom: &[u8], lent: usize, entry: u32) -> Asked
+#[tactic(auto, unfolding(crate::specs::Answer::asked_of))]
+fn look(k: Site, rom: &[u8], lent: usize, entry: u32) -> Result<(), Refusal>
     ensures { result ≡ asked_of k (length rom.now) lent entry }
 {
     if !memory::could_carry(k, rom) {
-        return Asked::Unfit(Refusal::BadBoard);
+        return Err(Refusal::BadBoard);
     }
     if entry % 2 != 0 {
-        return Asked::Unfit(Refusal::BadEntry(entry));
+        return Err(Refusal::BadEntry(entry));
     }
-    let at = entry as usize;
     let len = rom.len();
-    if len <= at {
-        return Asked::Unfit(Refusal::BadEntry(entry));
+    if len <= entry as usize {
+        return Err(Refusal::BadEntry(entry));
     }
     if lent < len {
-        return Asked::Unfit(Refusal::LentTooShort(len as u32));
+        return Err(Refusal::LentTooShort(len as u32));
     }
-    Asked::Fit
+    Ok(())
 }
 
 // Why the lowest forbidden place is forbidden.
+#[tactic(auto, unfolding(crate::specs::MirrorFigure::why_at))]
 fn why_at(k: Site, rom: &[u8], low: u64) -> Refusal
     ensures { result ≡ why_at (flow_at k rom.now) low }
 {
     let p = (low % 16777216) as u32;
-    let f = listing::flow_at(k, rom, p);
-    paths::why(p, f)
+    paths::why(p, listing::flow_at(k, rom, p))
 }
 
 // The answer by a total, which stands for any above 1,000,000,000 where it is above that.
-fn held(entry: u32, total: u64) -> Verdict
+#[tactic(auto, unfolding(crate::specs::MirrorFigure::figure_of))]
+fn held(entry: u32, total: u64) -> Result<u64, Refusal>
     ensures { result ≡ figure_of entry total }
 {
     if LIMIT < total {
-        return Verdict::Forbids(Refusal::TooLong(entry));
+        return Err(Refusal::TooLong(entry));
     }
-    Verdict::Longest(total)
+    Ok(total)
 }
 
 // The answer by the entry's row.
-fn told(k: Site, rom: &[u8], entry: u32, r: Reckoned) -> Verdict
+#[tactic(auto, unfolding(crate::specs::MirrorFigure::verdict_of))]
+fn told(k: Site, rom: &[u8], entry: u32, r: Reckoned) -> Result<u64, Refusal>
     ensures { result ≡ verdict_of (flow_at k rom.now) entry r }
 {
-    let low = r.low;
-    if low == NONE {
+    if r.low == NONE {
         return held(entry, r.figure);
     }
-    Verdict::Forbids(why_at(k, rom, low))
+    Err(why_at(k, rom, r.low))
 }
 
 // The figure of the routine at `entry`, for the boards that have the site k.
-pub fn figure(k: Site, rom: &[u8], entry: u32, table: &mut [u64]) -> Verdict
+pub fn figure(k: Site, rom: &[u8], entry: u32, table: &mut [u64]) -> Result<u64, Refusal>
     ensures answer { Figured k rom.now entry table.old result table.new }
     ensures exact { RefusedExactly k rom.now entry table.old result }
     ensures runs { RunsKept k rom.now entry result }
 {
-    let a = look(k, rom, table.len(), entry);
-    match a {
-        Asked::Fit => {
-            let r = levels::fill(k, rom, entry, table);
-            told(k, rom, entry, r)
-        }
-        Asked::Unfit(f) => Verdict::Forbids(f),
-    }
+    look(k, rom, table.len(), entry)?;
+    let r = levels::fill(k, rom, entry, table);
+    told(k, rom, entry, r)
 }
 
 // Why a place has no way, by the lowest forbidden place of its row; which is its own address also where its total is above 1,000,000,000.
+#[tactic(auto, unfolding(crate::specs::MirrorFigure::no_way_of))]
 fn no_way(k: Site, rom: &[u8], place: u32, low: u64) -> Refusal
     ensures { result ≡ no_way_of (flow_at k rom.now) place low }
 {
     if low == place as u64 {
-        let f = listing::flow_at(k, rom, place);
-        return paths::own(place, f);
+        return paths::own(place, listing::flow_at(k, rom, place));
     }
     why_at(k, rom, low)
 }
 
 // The longest way from a place by its row.
-fn on_from(k: Site, rom: &[u8], table: &[u64], place: u32, r: Reckoned) -> WayOn
-    ensures { result ≡ on_from (flow_at k rom.now) (length rom.now) table.now place r }
+#[tactic(auto, unfolding(crate::specs::MirrorFigure::on_from, paths::specs::MirrorRows::onward_of))]
+fn on_from(
+    k: Site,
+    rom: &[u8],
+    table: Filled,
+    place: u32,
+    r: Reckoned,
+) -> Result<Option<u32>, Refusal>
+    ensures { result ≡ on_from (flow_at k rom.now) table.entry.len table.entry.table.now place r }
 {
-    let low = r.low;
-    if low == NONE {
-        let f = listing::flow_at(k, rom, place);
-        return paths::onward(rom.len(), table, f);
+    if r.low != NONE {
+        return Err(no_way(k, rom, place, r.low));
     }
-    WayOn::NoWay(no_way(k, rom, place, low))
+    let f = listing::flow_at(k, rom, place)?;
+    Ok(table.onward(f))
 }
 
-// Where the longest path from a place goes next, by a table that `figure` filled.
-pub fn way(k: Site, rom: &[u8], table: &[u64], place: u32) -> WayOn
+// Where the longest path from a place goes next, by a table that `figure` filled; nowhere, where it returns.
+#[tactic(auto, unfolding(crate::specs::MirrorFigure::way_of, crate::specs::MirrorFigure::way_asked))]
+pub fn way(k: Site, rom: &[u8], table: &[u64], place: u32) -> Result<Option<u32>, Refusal>
     ensures answer { result ≡ way_of k rom.now table.now place }
     ensures longest { WayTold k rom.now table.now (way_of k rom.now table.now) place }
 {
-    let a = look(k, rom, table.len(), place);
-    match a {
-        Asked::Fit => {
-            let r = paths::row_of(rom.len(), table, place);
-            on_from(k, rom, table, place, r)
-        }
-        Asked::Unfit(f) => WayOn::NoWay(f),
-    }
+    look(k, rom, table.len(), place)?;
+    let filled = Filled {
+        len: rom.len(),
+        table: table,
+    };
+    on_from(k, rom, filled, place, filled.row(place))
 }

@@ -1,267 +1,171 @@
-// What `h8 run` is asked, from its arguments.
-use crate::ask::Request;
-use crate::fault::Got;
-use crate::{ask, fault};
+// Numbers among the arguments, and what `h8 run` and `h8 replay` are asked by them.
+ghost use Rattle.std.specs.Prelude.{◌≤◌, ◌<◌, IfOk};
+
+use crate::ask::{Argument, Arguments, EMPTY, Request, refuse};
+use crate::fault::Fault;
+use crate::wanted::Wanted;
 use asking::Kind;
+use memory::Board;
 use registers::{Condition, Registers};
 use runlines::Given;
-use site::Area;
-use std::env::Env;
-use std::io;
+use site::{Area, Site};
+use std::env::{Env, FillError};
 
 // A stop address that PC never holds.
-const NEVER: u64 = 16777215;
+const NEVER: u32 = 16777215;
 
-// `bad` where a line has said which argument is wrong, here and below.
-#[derive(Clone, Copy)]
-pub struct Wanted {
-    pub given: Given,
-    pub bad: bool,
-}
+// The longest working memory.
+pub const LONGEST: usize = 65536;
 
-#[derive(Clone, Copy)]
-pub struct PortArea {
-    pub area: Area,
-    pub bad: bool,
-}
-
-#[derive(Clone, Copy)]
-pub struct Begun {
-    pub regs: Registers,
-    pub bad: bool,
-}
-
-pub fn small(v: u64) -> u32 {
-    (v % 4294967296) as u32
-}
-
-// Where an option's value stands: k arguments after its name; 0 is none.
-fn after(i: usize, k: usize) -> usize {
-    if i == 0 { 0 } else { i.wrapping_add(k) }
-}
-
-// The value of an option that may be left out.
-fn optional(
-    rt: &(impl Print + Env),
-    plain: bool,
-    name: &[u8],
-    i: usize,
-    otherwise: u64,
-    expected: &[u8],
-) -> io::Result<Got> {
-    if i == 0 {
-        return Ok(Got::Found(otherwise));
-    }
-    fault::number(rt, plain, name, after(i, 1), 4294967295, expected)
-}
-
-fn asked_for(entry: u64, base: u64, length: u64, stop: u64, budget: u64) -> Wanted {
-    Wanted {
-        given: Given {
-            entry: small(entry),
-            base: small(base),
-            length: small(length),
-            stop: small(stop),
-            budget: small(budget),
-            area: none_at(small(base)),
-            code: 0,
-        },
-        bad: false,
+// The number at an argument, at most `most`.
+pub fn long_number(
+    rt: &impl Env,
+    wanted: Wanted,
+    at: Option<Argument>,
+    most: u64,
+) -> Result<u64, Fault>
+    ensures { IfOk result (λ n. n ≤ most) }
+{
+    let Some(at) = at else {
+        return Err(Fault::Missing(wanted));
+    };
+    let mut room = EMPTY;
+    let bytes = match at.bytes(rt, &mut room) {
+        Ok(bytes) => bytes,
+        Err(FillError::NotPresent) => return Err(Fault::Missing(wanted)),
+        Err(FillError::TooLong) => return Err(Fault::Wrong(wanted, at)),
+    };
+    match asking::number_in(bytes) {
+        Ok(n) if n <= most => Ok(n),
+        _ => Err(Fault::Wrong(wanted, at)),
     }
 }
 
-// No ports: an empty area.
-fn none_at(p: u32) -> Area {
+pub fn number(rt: &impl Env, wanted: Wanted, at: Option<Argument>, most: u32) -> Result<u32, Fault>
+    ensures { IfOk result (λ n. n ≤ most) }
+{
+    let n = long_number(rt, wanted, at, most as u64)?;
+    Ok(n as u32)
+}
+
+// An address; whether it lies in the ROM is the library's to say.
+pub fn address(rt: &impl Env, wanted: Wanted, at: Option<Argument>) -> Result<u32, Fault> {
+    number(rt, wanted, at, u32::MAX)
+}
+
+// The same of a word that may be left out.
+pub fn address_or(
+    rt: &impl Env,
+    wanted: Wanted,
+    at: Option<Argument>,
+    otherwise: u32,
+) -> Result<u32, Fault> {
+    if at.is_none() {
+        return Ok(otherwise);
+    }
+    address(rt, wanted, at)
+}
+
+// The nth value of an option.
+fn value(option: Option<Argument>, n: usize) -> Option<Argument> {
+    option.map(|at| at.behind(n))
+}
+
+// The width of the ports' bus.
+fn bits(rt: &impl Env, at: Option<Argument>) -> Result<u32, Fault> {
+    let n = number(rt, Wanted::PortBits, at, 16)?;
+    if n != 8 && n != 16 {
+        refuse(Wanted::PortBits, at)?;
+    }
+    Ok(n)
+}
+
+// An empty area.
+fn no_ports(at: u32) -> Area {
     Area {
-        base: p,
-        end: p,
+        base: at,
+        end: at,
         bus: 8,
     }
 }
 
-fn no_ports() -> PortArea {
-    PortArea {
-        area: none_at(0),
-        bad: true,
+// The ports; without --port there are none, as on a board whose area is empty. It lies at `otherwise` then.
+pub fn ports(rt: &impl Env, port: Option<Argument>, otherwise: u32) -> Result<Area, Fault> {
+    if port.is_none() {
+        return Ok(no_ports(otherwise));
+    }
+    Ok(Area {
+        base: address(rt, Wanted::PortBase, value(port, 1))?,
+        end: address(rt, Wanted::PortEnd, value(port, 2))?,
+        bus: bits(rt, value(port, 3))?,
+    })
+}
+
+// The value of an option that may be left out.
+fn number_or(
+    rt: &impl Env,
+    wanted: Wanted,
+    option: Option<Argument>,
+    otherwise: u32,
+) -> Result<u32, Fault> {
+    if option.is_none() {
+        return Ok(otherwise);
+    }
+    number(rt, wanted, value(option, 1), u32::MAX)
+}
+
+fn length(rt: &impl Env, ram: Option<Argument>) -> Result<u32, Fault>
+    ensures { IfOk result (λ n. n ≤ 65536) }
+{
+    number(rt, Wanted::RamLength, value(ram, 2), 65536)
+}
+
+// The numbers, with an empty area of ports; the stop address and the budget may be left out.
+pub fn numbers(rt: &impl Env, request: &Request, rom: &[u8]) -> Result<Given, Fault>
+    ensures { IfOk result (λ given. given.length ≤ 65536) }
+{
+    let entry = address(rt, Wanted::Entry, request.third())?;
+    let base = address(rt, Wanted::RamBase, value(request.ram, 1))?;
+    let length = length(rt, request.ram)?;
+    Ok(Given {
+        entry,
+        base,
+        length,
+        stop: number_or(rt, Wanted::Stop, request.stop, NEVER)?,
+        budget: number_or(rt, Wanted::Budget, request.budget, 1000000)?,
+        area: no_ports(base),
+        code: (rom.len() & 0xffffffff) as u32,
+    })
+}
+
+pub fn board(given: &Given) -> Board {
+    Board {
+        base: given.base,
+        site: Site { area: given.area },
     }
 }
 
-fn ports_of(base: u64, end: u64, bus: u64) -> PortArea {
-    PortArea {
-        area: Area {
-            base: small(base),
-            end: small(end),
-            bus: small(bus),
-        },
-        bad: false,
-    }
-}
-
-// What was asked, with the ports and the ROM's length.
-pub fn with_area(g: Given, area: Area, rom: &[u8]) -> Given {
-    Given {
-        entry: g.entry,
-        base: g.base,
-        length: g.length,
-        stop: g.stop,
-        budget: g.budget,
-        area,
-        code: (rom.len() % 4294967296) as u32,
-    }
-}
-
-// The width of the ports' bus; if it is wrong, a line says so.
-fn bits(rt: &(impl Print + Env), plain: bool, i: usize) -> io::Result<Got> {
-    let Got::Found(n) = fault::number(rt, plain, b"BITS of --port", i, 16, b"8 or 16")? else {
-        return Ok(Got::Wrong);
-    };
-    if (n == 8) | (n == 16) {
-        return Ok(Got::Found(n));
-    }
-    fault::wrong(rt, plain, b"BITS of --port", i, b"8 or 16")?;
-    Ok(Got::Wrong)
-}
-
-// The ports that --port names; without it an empty area at `otherwise`.
-pub fn ports(rt: &(impl Print + Env), q: Request, otherwise: u32) -> io::Result<PortArea> {
-    if q.port == 0 {
-        return Ok(PortArea {
-            area: none_at(otherwise),
-            bad: false,
-        });
-    }
-    let Got::Found(base) = fault::address(rt, q.plain, b"BASE of --port", after(q.port, 1))? else {
-        return Ok(no_ports());
-    };
-    let Got::Found(end) = fault::address(rt, q.plain, b"END of --port", after(q.port, 2))? else {
-        return Ok(no_ports());
-    };
-    let Got::Found(bus) = bits(rt, q.plain, after(q.port, 3))? else {
-        return Ok(no_ports());
-    };
-    Ok(ports_of(base, end, bus))
-}
-
-fn no_numbers() -> Wanted {
-    let mut w = asked_for(0, 0, 0, 0, 0);
-    w.bad = true;
-    w
-}
-
-// The numbers; the stop address and the budget may be left out.
-pub fn numbers(rt: &(impl Print + Env), q: Request) -> io::Result<Wanted> {
-    let Got::Found(entry) = fault::address(rt, q.plain, b"ENTRY", q.third)? else {
-        return Ok(no_numbers());
-    };
-    let Got::Found(base) = fault::address(rt, q.plain, b"BASE of --ram", after(q.ram, 1))? else {
-        return Ok(no_numbers());
-    };
-    let Got::Found(length) = fault::number(
-        rt,
-        q.plain,
-        b"LENGTH of --ram",
-        after(q.ram, 2),
-        65536,
-        b"an even number up to 65536",
-    )?
-    else {
-        return Ok(no_numbers());
-    };
-    let Got::Found(stop) = optional(
-        rt,
-        q.plain,
-        b"--stop",
-        q.stop,
-        NEVER,
-        b"an address up to 0xffffffff, decimal or 0x",
-    )?
-    else {
-        return Ok(no_numbers());
-    };
-    let Got::Found(budget) = optional(
-        rt,
-        q.plain,
-        b"--budget",
-        q.budget,
-        1000000,
-        b"a number of steps up to 1000000",
-    )?
-    else {
-        return Ok(no_numbers());
-    };
-    Ok(asked_for(entry, base, length, stop, budget))
-}
-
-fn cleared(entry: u32) -> Begun {
-    Begun {
-        regs: Registers {
-            er: [0u32; 8],
-            pc: entry,
-            condition: Condition::from_byte(0),
-        },
-        bad: false,
-    }
-}
-
-fn spoiled(s: Begun) -> Begun {
-    let r = s.regs;
-    Begun { regs: r, bad: true }
-}
-
-fn with_er(s: Begun, n: u64, v: u64) -> Begun {
-    let mut r = s.regs;
-    let k = (n % 8) as usize;
-    r.er[k] = (v % 4294967296) as u32;
-    Begun {
-        regs: r,
-        bad: s.bad,
-    }
-}
-
-// The register that the option --er at argument i sets.
-fn er(rt: &(impl Print + Env), plain: bool, s: Begun, i: usize) -> io::Result<Begun> {
-    if s.bad {
-        return Ok(s);
-    }
-    let Got::Found(n) = fault::number(
-        rt,
-        plain,
-        b"N of --er",
-        after(i, 1),
-        7,
-        b"a register's number, 0 to 7",
-    )?
-    else {
-        return Ok(spoiled(s));
-    };
-    let Got::Found(v) = fault::number(
-        rt,
-        plain,
-        b"VALUE of --er",
-        after(i, 2),
-        4294967295,
-        b"a number up to 0xffffffff, decimal or 0x",
-    )?
-    else {
-        return Ok(spoiled(s));
-    };
-    Ok(with_er(s, n, v))
-}
-
-// What argument i sets.
-fn set_at(rt: &(impl Print + Env), plain: bool, s: Begun, k: Kind, i: usize) -> io::Result<Begun> {
-    if let Kind::ErOption = k {
-        er(rt, plain, s, i)
-    } else {
-        Ok(s)
-    }
+// The register and the value that an option --er sets.
+fn er(rt: &impl Env, at: Argument) -> Result<(usize, u32), Fault>
+    ensures { IfOk result (λ set. set.0 < 8) }
+{
+    let n = number(rt, Wanted::Register, Some(at.behind(1)), 7)?;
+    let v = number(rt, Wanted::Value, Some(at.behind(2)), u32::MAX)?;
+    Ok((n as usize, v))
 }
 
 // Registers are 0 but for those that --er sets, and PC, which is the entry; all flags are 0.
-pub fn start(rt: &(impl Print + Env), plain: bool, count: usize, entry: u32) -> io::Result<Begun> {
-    let mut s = cleared(entry);
-    for i in 1..count {
-        s = set_at(rt, plain, s, ask::kind_at(rt, i), i)?;
+pub fn registers(rt: &impl Env, entry: u32) -> Result<Registers, Fault> {
+    let mut regs = Registers {
+        er: [0; 8],
+        pc: entry,
+        condition: Condition::from(0),
+    };
+    for at in Arguments::of(rt) {
+        if let Some(Kind::ErOption) = at.kind(rt) {
+            let (n, v) = er(rt, at)?;
+            regs.er[n] = v;
+        }
     }
-    Ok(s)
+    Ok(regs)
 }

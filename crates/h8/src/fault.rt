@@ -1,122 +1,107 @@
-// What is wrong with the arguments, in one line: the argument's name, what it is and what was expected.
-use crate::{ask, show};
-use asking::Number;
+// Why there is no answer, and the line that says so: an argument's name, what it is and what was expected.
+use crate::ask::{Argument, EMPTY};
+use crate::show;
+use crate::wanted::Wanted;
 use std::env::{Env, FillError};
 use std::io;
 
-#[derive(Clone, Copy)]
-pub enum Got {
-    Found(u64),
-    Wrong,
+#[derive(Drop)]
+pub enum Fault {
+    Missing(Wanted),
+    Wrong(Wanted, Argument),
+    Unread(Wanted, Argument, io::Error),
+    EmptyRom(Argument),
+    OddRom(Argument, usize),
+    LongRom(Argument),
+    // the answer could not be written
+    Output(io::Error),
 }
 
-fn write_shown(rt: &impl Print, s: &[u8]) -> io::Result<()> {
-    for b in s {
-        rt.write_all(&[asking::shown(*b)])?;
+impl From<io::Error> for Fault {
+    fn from(error: io::Error) -> Fault {
+        Fault::Output(error)
     }
-    Ok(())
 }
 
-// An argument as it was given.
-fn given(rt: &(impl Print + Env), i: usize) -> io::Result<()> {
-    let mut buf = [0u8; ask::LONGEST];
-    match rt.arg(i, &mut buf) {
-        Ok(n) => write_shown(rt, &buf[..n]),
-        Err(FillError::TooLong) => rt.write_all(b"(more than 4096 bytes)"),
+// What the system doesn't permit. Its kind is that of a file that may not be read (EACCES).
+const EPERM: i32 = 1;
+
+// Why a file can't be read, by the error's kind; InvalidData is that of a path that is no text.
+fn reason(error: &io::Error) -> &'static str {
+    if error.raw_os_error() == Some(EPERM) {
+        return "the system refuses it";
+    }
+    match error.kind() {
+        io::ErrorKind::NotFound => "there is no such file",
+        io::ErrorKind::PermissionDenied => "it may not be read",
+        io::ErrorKind::IsADirectory => "it is a directory",
+        io::ErrorKind::NotADirectory => "a part of its path is no directory",
+        io::ErrorKind::InvalidFilename => "its name is too long",
+        io::ErrorKind::InvalidData => "its name is no UTF-8 text",
+        _ => "the system refuses it",
+    }
+}
+
+// An argument as it was given, but for bytes that would end the line or steer the screen.
+fn given(rt: &(impl Print + Env), at: Argument) -> io::Result<()> {
+    let mut room = EMPTY;
+    match at.bytes(rt, &mut room) {
+        Ok(bytes) => {
+            for byte in bytes {
+                rt.write_all(&[asking::shown(*byte)])?;
+            }
+            Ok(())
+        }
+        Err(FillError::TooLong) => rt.print("(more than 4096 bytes)"),
         Err(FillError::NotPresent) => Ok(()),
     }
 }
 
-pub fn missing(rt: &impl Print, plain: bool, name: &[u8], expected: &[u8]) -> io::Result<()> {
-    show::write(rt, asking::missing(text::blank(), plain, name, expected))
-}
-
-pub fn wrong(
+// The beginning of a line: an argument's name, a word behind it, and the argument.
+fn begin(
     rt: &(impl Print + Env),
     plain: bool,
-    name: &[u8],
-    i: usize,
-    expected: &[u8],
+    wanted: Wanted,
+    is: &str,
+    at: Argument,
 ) -> io::Result<()> {
-    show::write(rt, asking::wrong(text::blank(), plain, name, b" is "))?;
-    given(rt, i)?;
-    show::write(rt, asking::expected(text::blank(), expected))
+    show::say(rt, |l| asking::wrong(l, plain, wanted.name(), is))?;
+    given(rt, at)
 }
 
-// A file and what is wrong with it.
-pub fn named(
-    rt: &(impl Print + Env),
-    plain: bool,
-    name: &[u8],
-    i: usize,
-    what: &[u8],
-) -> io::Result<()> {
-    show::write(rt, asking::wrong(text::blank(), plain, name, b" "))?;
-    given(rt, i)?;
-    rt.write_all(what)
-}
-
-pub fn file(rt: &(impl Print + Env), plain: bool, i: usize, what: &[u8]) -> io::Result<()> {
-    named(rt, plain, b"ROM", i, what)
-}
-
-fn within(
-    rt: &(impl Print + Env),
-    plain: bool,
-    name: &[u8],
-    i: usize,
-    most: u64,
-    expected: &[u8],
-    v: u64,
-) -> io::Result<Got> {
-    if v <= most {
-        return Ok(Got::Found(v));
+impl Fault {
+    // The one line that is printed in place of an answer.
+    pub fn report(self, rt: &(impl Print + Env), plain: bool) -> io::Result<()> {
+        match self {
+            Fault::Missing(wanted) => {
+                show::say(
+                    rt,
+                    |l| asking::missing(l, plain, wanted.name(), wanted.expected()),
+                )
+            }
+            Fault::Wrong(wanted, at) => {
+                begin(rt, plain, wanted, " is ", at)?;
+                show::say(rt, |l| asking::expected(l, wanted.expected()))
+            }
+            Fault::Unread(wanted, at, error) => {
+                begin(rt, plain, wanted, " ", at)?;
+                println!(rt; " can't be read: {}", reason(&error))
+            }
+            Fault::EmptyRom(at) => {
+                begin(rt, plain, Wanted::Rom, " ", at)?;
+                println!(rt; " is empty: there is nothing to list")
+            }
+            Fault::OddRom(at, n) => {
+                begin(rt, plain, Wanted::Rom, " ", at)?;
+                println!(rt; " has {n} bytes: expected an even number of bytes, at most 524288")
+            }
+            Fault::LongRom(at) => {
+                begin(rt, plain, Wanted::Rom, " ", at)?;
+                println!(rt;
+                    " has more than 524288 bytes: expected an even number of bytes, at most 524288"
+                )
+            }
+            Fault::Output(error) => Err(error),
+        }
     }
-    wrong(rt, plain, name, i, expected)?;
-    Ok(Got::Wrong)
-}
-
-fn not(
-    rt: &(impl Print + Env),
-    plain: bool,
-    name: &[u8],
-    i: usize,
-    expected: &[u8],
-) -> io::Result<Got> {
-    wrong(rt, plain, name, i, expected)?;
-    Ok(Got::Wrong)
-}
-
-fn no(rt: &impl Print, plain: bool, name: &[u8], expected: &[u8]) -> io::Result<Got> {
-    missing(rt, plain, name, expected)?;
-    Ok(Got::Wrong)
-}
-
-// The number at argument i, at most `most`; if it is none, a line says so.
-pub fn number(
-    rt: &(impl Print + Env),
-    plain: bool,
-    name: &[u8],
-    i: usize,
-    most: u64,
-    expected: &[u8],
-) -> io::Result<Got> {
-    match ask::number_at(rt, i) {
-        Number::Value(v) => within(rt, plain, name, i, most, expected, v),
-        Number::NotNumber => not(rt, plain, name, i, expected),
-        Number::TooLarge => not(rt, plain, name, i, expected),
-        Number::Missing => no(rt, plain, name, expected),
-    }
-}
-
-// An address; whether it lies in the ROM is the library's to say.
-pub fn address(rt: &(impl Print + Env), plain: bool, name: &[u8], i: usize) -> io::Result<Got> {
-    number(
-        rt,
-        plain,
-        name,
-        i,
-        4294967295,
-        b"an address up to 0xffffffff, decimal or 0x",
-    )
 }

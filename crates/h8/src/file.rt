@@ -1,130 +1,61 @@
 // The ROM's bytes from a file.
-use crate::{ask, fault};
+ghost use Rattle.std.specs.Prelude.{◌≤◌, length, IfOk};
+
+use crate::ask::{Argument, EMPTY};
+use crate::fault::Fault;
+use crate::wanted::Wanted;
 use std::env::Env;
 use std::io::{ErrorKind, Read};
 use std::rt::Files;
 use std::{fs, io};
 
-#[derive(Clone, Copy)]
-pub enum Loaded {
-    Bytes(usize),
-    NotLoaded,
-}
+// The longest ROM.
+const LONGEST: usize = 524288;
 
-fn some(from: &mut impl Read, buf: &mut [u8], at: usize) -> io::Result<usize> {
-    if at < buf.len() {
-        from.read(&mut buf[at..])
-    } else {
-        Ok(0)
-    }
-}
+// Room for the longest ROM and two bytes more, by which a longer file is found.
+pub type Room = [u8; 524290];
 
-// Reads until the file ends or the buffer is full, and says how many bytes. Each turn moves a byte or more.
-fn fill(from: &mut impl Read, buf: &mut [u8]) -> io::Result<usize> {
-    let mut at: usize = 0;
-    for _ in 0..0xFFFFFFFFu32 {
-        let got = some(from, buf, at)?;
-        if got == 0 {
-            return Ok(at);
+// Reads until the file ends or the room is full, and says how many bytes. Each turn but the last moves a byte or more.
+fn fill(from: &mut impl Read, room: &mut [u8]) -> io::Result<usize>
+    ensures { IfOk result (λ n. n ≤ length room.new) }
+{
+    let mut n = 0;
+    for _ in 0..room.len() {
+        let more = from.read(&mut room[n..])?;
+        if more == 0 {
+            break;
         }
-        at = at.wrapping_add(got);
+        n += more;
     }
-    Ok(at)
+    Ok(n)
 }
 
-// The file that argument i names. A path is text here, so one of other bytes opens nothing.
-pub fn open<R: Env + Files>(rt: &R, i: usize) -> io::Result<R::File> {
-    let mut path = [0u8; ask::LONGEST];
-    let n = ask::bytes_at(rt, i, &mut path);
-    match std::str::from_utf8(&path[..n]) {
+// The file that an argument names. A path is text here, so one of other bytes opens nothing.
+pub fn open<R: Env + Files>(rt: &R, at: Argument) -> io::Result<R::File> {
+    let mut room = EMPTY;
+    match std::str::from_utf8(at.bytes(rt, &mut room).unwrap_or(&[])) {
         Ok(path) => fs::open(rt, path),
         Err(_) => Err(io::Error::from(ErrorKind::InvalidData)),
     }
 }
 
-fn read(rt: &(impl Env + Files), i: usize, buf: &mut [u8]) -> io::Result<usize> {
-    let mut file = open(rt, i)?;
-    fill(&mut file, buf)
+fn read(rt: &(impl Env + Files), at: Argument, room: &mut [u8]) -> io::Result<usize>
+    ensures { IfOk result (λ n. n ≤ length room.new) }
+{
+    let mut file = open(rt, at)?;
+    fill(&mut file, room)
 }
 
-// What the system doesn't permit. Its kind is that of a file that may not be read (EACCES).
-const EPERM: i32 = 1;
-
-// Why a file can't be read, by the error's kind; InvalidData is that of a path that is no text.
-fn reason(e: &io::Error) -> &'static [u8] {
-    if e.raw_os_error() == Some(EPERM) {
-        return b"the system refuses it\n";
+// The ROM that an argument names, at the start of the room.
+pub fn load<'a>(
+    rt: &(impl Env + Files),
+    at: Argument,
+    room: &'a mut Room,
+) -> Result<&'a [u8], Fault> {
+    match read(rt, at, room) {
+        Ok(n) if LONGEST < n => Err(Fault::LongRom(at)),
+        Ok(n) if n % 2 != 0 => Err(Fault::OddRom(at, n)),
+        Ok(n) => Ok(&room[..n]),
+        Err(error) => Err(Fault::Unread(Wanted::Rom, at, error)),
     }
-    match e.kind() {
-        ErrorKind::NotFound => b"there is no such file\n",
-        ErrorKind::PermissionDenied => b"it may not be read\n",
-        ErrorKind::IsADirectory => b"it is a directory\n",
-        ErrorKind::NotADirectory => b"a part of its path is no directory\n",
-        ErrorKind::InvalidFilename => b"its name is too long\n",
-        ErrorKind::InvalidData => b"its name is no UTF-8 text\n",
-        _ => b"the system refuses it\n",
-    }
-}
-
-pub fn unread(
-    rt: &(impl Print + Env),
-    plain: bool,
-    name: &[u8],
-    i: usize,
-    e: io::Error,
-) -> io::Result<()> {
-    fault::named(rt, plain, name, i, b" can't be read: ")?;
-    rt.write_all(reason(&e))
-}
-
-fn odd(rt: &(impl Print + Env), plain: bool, i: usize, n: usize) -> io::Result<()> {
-    fault::file(rt, plain, i, b" has ")?;
-    println!(rt; "{n} bytes: expected an even number of bytes, at most 524288")
-}
-
-fn fit(rt: &(impl Print + Env), plain: bool, i: usize, n: usize) -> io::Result<Loaded> {
-    if 524288 < n {
-        fault::file(
-            rt,
-            plain,
-            i,
-            b" has more than 524288 bytes: expected an even number of bytes, at most 524288\n",
-        )?;
-        return Ok(Loaded::NotLoaded);
-    }
-    if n % 2 != 0 {
-        odd(rt, plain, i, n)?;
-        return Ok(Loaded::NotLoaded);
-    }
-    Ok(Loaded::Bytes(n))
-}
-
-fn checked(
-    rt: &(impl Print + Env),
-    plain: bool,
-    i: usize,
-    f: io::Result<usize>,
-) -> io::Result<Loaded> {
-    match f {
-        Ok(n) => fit(rt, plain, i, n),
-        Err(e) => {
-            unread(rt, plain, b"ROM", i, e)?;
-            Ok(Loaded::NotLoaded)
-        }
-    }
-}
-
-// The file that argument i names, into `rom`, which is longer than any ROM.
-pub fn load(
-    rt: &(impl Print + Env + Files),
-    plain: bool,
-    i: usize,
-    rom: &mut [u8],
-) -> io::Result<Loaded> {
-    if i == 0 {
-        fault::missing(rt, plain, b"ROM", b"a file")?;
-        return Ok(Loaded::NotLoaded);
-    }
-    let f = read(rt, i, rom);
-    checked(rt, plain, i, f)
 }

@@ -1,177 +1,113 @@
 // The places of a way or of a listing, one after the other.
-use crate::show;
-use paths::WayOn;
-use site::Site;
-use std::io;
+use crate::show::Tool;
+use lines::Code;
+use std::{io, iter};
 
-const NONE: u32 = 16777215;
-
-// Where a way goes on; NONE where it ends.
-fn next(w: WayOn) -> u32 {
-    match w {
-        WayOn::On(p) => p,
-        WayOn::Home => NONE,
-        WayOn::NoWay(_) => NONE,
-    }
+// Where the longest way goes on from a place; nowhere at its end.
+fn onward(code: Code, table: &[u64], place: u32) -> Option<u32> {
+    figure::way(code.site, code.rom, table, place).unwrap_or(None)
 }
 
-// Places rise along a way, so it has no more turns than the ROM has bytes.
-fn follow(
-    rt: &impl Print,
-    k: Site,
-    rom: &[u8],
-    table: &[u64],
-    entry: u32,
-    plain: bool,
-) -> io::Result<()> {
-    let mut p = entry;
-    let mut total: u64 = 0;
-    for _ in 0..rom.len() {
-        total = lines::total(k, rom, p, total);
-        show::write(rt, lines::on_way(k, rom, p, total, plain))?;
-        total = lines::with_call(k, rom, table, p, total);
-        show::write(rt, lines::on_call(k, rom, table, p, total, plain))?;
-        p = next(figure::way(k, rom, table, p));
-        if p == NONE {
-            return Ok(());
-        }
-    }
-    Ok(())
-}
-
-// A place of a way that goes into the routines that it calls, with where these return to.
+// A place of a way that goes into the routines that it calls, and where the calls go on that lead there, the last one last.
 #[derive(Clone, Copy)]
 struct Within {
     place: u32,
     depth: u8,
-    back: [u32; 8],
+    back: [Option<u32>; 8],
 }
 
-fn at(place: u32, depth: u8, back: [u32; 8]) -> Within {
-    Within {
-        place: place,
-        depth: depth,
-        back: back,
-    }
-}
-
-// Into the routine at t; its return goes on at `after`.
-fn into(w: Within, t: u32, after: u32) -> Within {
-    let mut back = w.back;
-    let i = (w.depth % 8) as usize;
-    back[i] = after;
-    at(t, w.depth % 8 + 1, back)
-}
-
-// Back to where the last call goes on.
-fn out_of(w: Within) -> Within {
-    let back = w.back;
-    let d = (w.depth % 16 + 7) % 8;
-    let i = d as usize;
-    at(back[i], d, back)
-}
-
-// Where it goes on after a place; NONE after the return of the routine that was asked for.
-fn onward(k: Site, rom: &[u8], table: &[u64], w: Within) -> Within {
-    let back = w.back;
-    let after = next(figure::way(k, rom, table, w.place));
-    let t = lines::called(k, rom, w.place);
-    if t != NONE {
-        return into(w, t, after);
-    }
-    if (after == NONE) & (w.depth != 0) {
-        out_of(w)
-    } else {
-        at(after, w.depth, back)
-    }
-}
-
-// A figure is at most 1,000,000,000 states, and each place of a way takes some: it has no more turns.
-fn descend(
-    rt: &impl Print,
-    k: Site,
-    rom: &[u8],
-    table: &[u64],
-    entry: u32,
-    plain: bool,
-) -> io::Result<()> {
-    let mut w = at(entry, 0, [0u32; 8]);
-    let mut total: u64 = 0;
-    for _ in 0..1000000000u32 {
-        total = lines::total(k, rom, w.place, total);
-        show::write(rt, lines::level(w.depth, plain))?;
-        show::write(rt, lines::on_way(k, rom, w.place, total, plain))?;
-        w = onward(k, rom, table, w);
-        if w.place == NONE {
-            return Ok(());
+impl Within {
+    fn at(place: u32) -> Within {
+        Within {
+            place,
+            depth: 0,
+            back: [None; 8],
         }
     }
-    Ok(())
-}
 
-fn go(
-    rt: &impl Print,
-    k: Site,
-    rom: &[u8],
-    table: &[u64],
-    entry: u32,
-    deep: bool,
-    plain: bool,
-) -> io::Result<()> {
-    if deep {
-        descend(rt, k, rom, table, entry, plain)
-    } else {
-        follow(rt, k, rom, table, entry, plain)
-    }
-}
-
-// The longest way from an entry, of n states, by a table that figure filled; `deep` with the ways through what it calls.
-pub fn way(
-    rt: &impl Print,
-    k: Site,
-    rom: &[u8],
-    table: &[u64],
-    entry: u32,
-    n: u64,
-    deep: bool,
-    plain: bool,
-) -> io::Result<()> {
-    show::write(rt, lines::way_heading(text::blank(), plain))?;
-    go(rt, k, rom, table, entry, deep, plain)?;
-    show::write(rt, lines::longest(text::blank(), entry, n, plain))
-}
-
-// The places from `from` to `to`, both included; each has a byte or more, so there are no more turns than the ROM has bytes.
-fn places(
-    rt: &impl Print,
-    k: Site,
-    rom: &[u8],
-    table: &[u64],
-    from: usize,
-    to: usize,
-    plain: bool,
-) -> io::Result<()> {
-    let mut p = from;
-    for _ in 0..rom.len() {
-        if (to < p) | (rom.len() <= p) {
-            return Ok(());
+    // Into a routine, whose return goes on at `after`. No figure goes more than eight calls deep.
+    fn into(mut self, routine: u32, after: Option<u32>) -> Within {
+        let depth = self.depth as usize;
+        if depth < 8 {
+            self.back[depth] = after;
+            self.depth += 1;
         }
-        let at = (p % 16777216) as u32;
-        show::write(rt, lines::listed(k, rom, table, at, plain))?;
-        p = p.wrapping_add(lines::length_at(rom, at) as usize);
+        self.place = routine;
+        self
     }
-    Ok(())
+
+    // Back to where the last call goes on.
+    fn out(mut self) -> Option<Within> {
+        self.depth = self.depth.checked_sub(1)?;
+        let depth = self.depth as usize;
+        let last = self.back.get(depth)?;
+        self.place = (*last)?;
+        Some(self)
+    }
+
+    // Where it goes on; nowhere after the return of the routine that was asked for.
+    fn next(self, code: Code, table: &[u64]) -> Option<Within> {
+        let after = onward(code, table, self.place);
+        if let Some(routine) = code.called(self.place) {
+            return Some(self.into(routine, after));
+        }
+        match after {
+            Some(place) => Some(Within { place, ..self }),
+            None => self.out(),
+        }
+    }
 }
 
-pub fn list(
-    rt: &impl Print,
-    k: Site,
-    rom: &[u8],
-    table: &[u64],
-    from: usize,
-    to: usize,
-    plain: bool,
-) -> io::Result<()> {
-    show::write(rt, lines::list_heading(text::blank(), plain))?;
-    places(rt, k, rom, table, from, to, plain)
+impl<R: Print> Tool<'_, R> {
+    // The longest way from an entry, of so many states, by a table that figure filled; with --deep through what it calls.
+    pub fn show_way(&self, code: Code, table: &[u64], entry: u32, states: u64) -> io::Result<()> {
+        let plain = self.request.plain;
+        self.say(|l| lines::way_heading(l, plain))?;
+        if self.request.deep.is_some() {
+            self.descend(code, table, entry, states)?;
+        } else {
+            self.follow(code, table, entry, states)?;
+        }
+        self.say(|l| lines::longest(l, entry, states, plain))
+    }
+
+    // Each place takes some states, so there are no more places than states.
+    fn follow(&self, code: Code, table: &[u64], entry: u32, states: u64) -> io::Result<()> {
+        let plain = self.request.plain;
+        let places = iter::successors(Some(entry), |place| onward(code, table, *place));
+        let mut total = 0;
+        for place in places.take(states as usize) {
+            total = code.total(place, total);
+            self.show(code.on_way(place, total, plain))?;
+            total = code.with_call(table, place, total);
+            self.show(code.on_call(table, place, total, plain))?;
+        }
+        Ok(())
+    }
+
+    fn descend(&self, code: Code, table: &[u64], entry: u32, states: u64) -> io::Result<()> {
+        let plain = self.request.plain;
+        let places = iter::successors(Some(Within::at(entry)), |within| within.next(code, table));
+        let mut total = 0;
+        for within in places.take(states as usize) {
+            total = code.total(within.place, total);
+            self.show(lines::level(within.depth, plain))?;
+            self.show(code.on_way(within.place, total, plain))?;
+        }
+        Ok(())
+    }
+
+    // The places from `from` to `to`, both included; each has a byte or more, so there are no more places than the ROM has bytes.
+    pub fn show_list(&self, code: Code, table: &[u64], from: u32, to: u32) -> io::Result<()> {
+        let plain = self.request.plain;
+        self.say(|l| lines::list_heading(l, plain))?;
+        let places = iter::successors(Some(from), |place| {
+            place.checked_add(code.length_at(*place) as u32)
+        });
+        let inside = |place: &u32| *place <= to && (*place as usize) < code.rom.len();
+        for place in places.take_while(inside).take(code.rom.len()) {
+            self.show(code.listed(table, place, plain))?;
+        }
+        Ok(())
+    }
 }

@@ -1,323 +1,179 @@
 // h8 replay: the recording is read in blocks as long as they come, from a file or a pipe, so it need not fit anywhere.
-use crate::ask::Request;
-use crate::{ask, asked, fault, file, show};
+use crate::ask::{Argument, EMPTY};
+use crate::fault::Fault;
+use crate::runs::Task;
+use crate::show::Tool;
+use crate::wanted::Wanted;
+use crate::{asked, file};
 use memory::Board;
-use registers::Registers;
+use refusal::Refusal;
 use replay::{Field, Report, Stage, Standing};
 use run::{Ending, RunAnswer};
 use runlines::Given;
-use site::Site;
 use std::env::Env;
 use std::io;
 use std::io::{Input, Read};
 use std::rt::Runtime;
 
-// Where the replay stands, how many bytes it was fed, and whether there is nothing more to read for it.
+// How far a replay has come: where it stands, how many bytes it was fed, and the last record of these as far as it is there.
 #[derive(Clone, Copy)]
-struct Reached {
+struct Progress {
     standing: Standing,
     bytes: u64,
-    over: bool,
+    record: [u8; 11],
 }
 
-fn told(g: Stage) -> bool {
-    match g {
-        Stage::Version => false,
-        Stage::Records(_) => false,
-        Stage::Told(_) => true,
-        Stage::Closed => true,
+impl Progress {
+    fn is_over(&self) -> bool {
+        matches!(self.standing.stage, Stage::Told(_) | Stage::Closed)
     }
-}
 
-// The last eleven bytes of a block that lie below `end`, each where it stands in its record; `before` bytes came before the block.
-fn note(rec: &mut [u8; 11], block: &[u8], before: u64, end: u64) {
-    let mut p = before;
-    for x in block {
-        if (0 < p) & (p < end) {
-            let k = (p.wrapping_add(10) % 11) as usize;
-            rec[k] = *x;
+    fn feed(&mut self, board: Board, rom: &[u8], ram: &mut [u8], block: &[u8]) {
+        self.standing = replay::feed(self.standing, board, rom, ram, block);
+        self.note(block);
+        self.bytes = self.bytes.wrapping_add(block.len() as u64);
+    }
+
+    // The bytes of a block that lie below the end of the record behind those that agreed, each where it stands in its record.
+    fn note(&mut self, block: &[u8]) {
+        let end = self.standing.steps as u64 * 11 + 12;
+        for (i, x) in block.iter().enumerate() {
+            let at = self.bytes.wrapping_add(i as u64);
+            if 0 < at && at < end {
+                self.record[((at - 1) % 11) as usize] = *x;
+            }
         }
-        p = p.wrapping_add(1);
     }
-}
 
-// Where the record after so many ends.
-fn end_of(records: u32) -> u64 {
-    (records as u64) * 11 + 12
+    // A field of that record.
+    fn recorded(&self, field: Field) -> u32 {
+        let r = self.record;
+        match field {
+            Field::OfPc => u32::from_be_bytes([r[2], r[3], r[4], r[5]]),
+            Field::OfCondition => r[6] as u32,
+            Field::OfStates => u32::from_be_bytes([r[7], r[8], r[9], r[10]]),
+        }
+    }
+
+    // The same field where the replay stands.
+    fn here(&self, field: Field) -> u32 {
+        let k = &self.standing;
+        match field {
+            Field::OfPc => k.regs.pc,
+            Field::OfCondition => u32::from(u8::from(k.regs.condition)),
+            Field::OfStates => (k.states & 0xffffffff) as u32,
+        }
+    }
 }
 
 // A line for each hundred thousand records, where the answers are not printed. The answer does not wait on it, so it may fail.
-fn moves(rt: &impl Eprint, before: u32, after: u32) {
+fn say_moves(rt: &impl Eprint, before: u32, after: u32) {
     if before / 100000 < after / 100000 {
         let _ = eprintln!(rt; "h8: records that agree so far: {after}");
     }
 }
 
-fn fed(
-    rt: &impl Eprint,
-    f: Reached,
-    b: Board,
-    rom: &[u8],
-    ram: &mut [u8],
-    block: &[u8],
-    rec: &mut [u8; 11],
-) -> Reached {
-    let k = f.standing;
-    let q = replay::feed(k, b, rom, ram, block);
-    note(rec, block, f.bytes, end_of(q.steps));
-    moves(rt, k.steps, q.steps);
-    let g = q.stage;
-    Reached {
-        standing: q,
-        bytes: f.bytes.wrapping_add(block.len() as u64),
-        over: told(g),
+impl<R: Runtime> Tool<'_, R> {
+    pub fn replay(&self) -> Result<(), Fault> {
+        let mut room: file::Room = [0; 524290];
+        let mut ram = [0u8; asked::LONGEST];
+        let rom = file::load(self.rt, self.request.rom()?, &mut room)?;
+        self.replay_in(rom, &mut ram)
     }
-}
 
-fn ended(f: Reached) -> Reached {
-    let k = f.standing;
-    Reached {
-        standing: k,
-        bytes: f.bytes,
-        over: true,
+    fn replay_in(&self, rom: &[u8], ram: &mut [u8; asked::LONGEST]) -> Result<(), Fault> {
+        let numbers = asked::numbers(self.rt, &self.request, rom)?;
+        let n = numbers.length as usize;
+        let fourth = self.request.fourth();
+        let recording = fourth.ok_or(Fault::Missing(Wanted::Recording))?;
+        let area = asked::ports(self.rt, self.request.port, numbers.base)?;
+        let given = Given { area, ..numbers };
+        let regs = asked::registers(self.rt, given.entry)?;
+        self.replay_from(recording, &Task { given, regs, rom }, &mut ram[..n])
     }
-}
 
-// The next block, as long as it comes. An error is that of reading, here and below.
-fn turn(
-    rt: &impl Eprint,
-    from: &mut impl Read,
-    f: Reached,
-    b: Board,
-    rom: &[u8],
-    ram: &mut [u8],
-    rec: &mut [u8; 11],
-) -> io::Result<Reached> {
-    let mut buf = [0u8; 4096];
-    let n = from.read(&mut buf)?;
-    if n == 0 {
-        return Ok(ended(f));
+    // From a file, or from what comes in, for a single dash.
+    fn replay_from(&self, recording: Argument, task: &Task, ram: &mut [u8]) -> Result<(), Fault> {
+        let unread = |error| Fault::Unread(Wanted::Recording, recording, error);
+        let progress = if recording.is_dash(self.rt) {
+            self.take(&mut self.rt.reader(), task, ram).map_err(unread)?
+        } else {
+            let mut file = file::open(self.rt, recording).map_err(unread)?;
+            self.take(&mut file, task, ram).map_err(unread)?
+        };
+        self.tell_replay(&progress, task)?;
+        Ok(())
     }
-    Ok(fed(rt, f, b, rom, ram, &buf[..n], rec))
-}
 
-// Until the recording ends or the replay has told. Each turn takes a byte or more.
-fn follow(
-    rt: &impl Eprint,
-    from: &mut impl Read,
-    f: Reached,
-    b: Board,
-    rom: &[u8],
-    ram: &mut [u8],
-    rec: &mut [u8; 11],
-) -> io::Result<Reached> {
-    let mut q = f;
-    for _ in 0..0xFFFFFFFFu32 {
-        if q.over {
-            return Ok(q);
+    // Until the recording ends or the replay has told. An error is that of reading.
+    fn take(&self, from: &mut impl Read, task: &Task, ram: &mut [u8]) -> io::Result<Progress> {
+        let board = asked::board(&task.given);
+        let mut progress = Progress {
+            standing: replay::begin(board, task.rom, &ram[..], task.regs),
+            bytes: 0,
+            record: [0; 11],
+        };
+        let mut block = [0u8; 4096];
+        for _ in 0..u64::MAX {
+            if progress.is_over() {
+                break;
+            }
+            let n = from.read(&mut block)?;
+            if n == 0 {
+                break;
+            }
+            let before = progress.standing.steps;
+            progress.feed(board, task.rom, ram, &block[..n]);
+            say_moves(self.rt, before, progress.standing.steps);
         }
-        q = turn(rt, from, q, b, rom, ram, rec)?;
+        Ok(progress)
     }
-    Ok(q)
-}
 
-// A number with a byte more below it.
-fn longer(n: u32, x: u8) -> u32 {
-    (n % 16777216) * 256 + x as u32
-}
-
-fn recorded(rec: &[u8; 11], f: Field) -> u32 {
-    match f {
-        Field::OfPc => longer(longer(longer(longer(0, rec[2]), rec[3]), rec[4]), rec[5]),
-        Field::OfCondition => longer(0, rec[6]),
-        Field::OfStates => longer(longer(longer(longer(0, rec[7]), rec[8]), rec[9]), rec[10]),
-    }
-}
-
-fn here(k: Standing, f: Field) -> u32 {
-    let r = k.regs;
-    let c = r.condition;
-    match f {
-        Field::OfPc => r.pc,
-        Field::OfCondition => c.byte() as u32,
-        Field::OfStates => (k.states % 4294967296) as u32,
-    }
-}
-
-fn counts(rt: &impl Print, k: Standing, first: &[u8], plain: bool) -> io::Result<()> {
-    let line = runlines::replayed(text::blank(), first, k.steps, b", states ", k.states, plain);
-    show::write(rt, line)
-}
-
-fn registers(rt: &impl Print, k: Standing, plain: bool) -> io::Result<()> {
-    let r = k.regs;
-    let a = RunAnswer {
-        regs: r,
-        steps: k.steps,
-        states: k.states,
-        why: Ending::Spent,
-    };
-    show::write(rt, runlines::registers(text::blank(), a, plain))
-}
-
-fn differs(
-    rt: &impl Print,
-    rom: &[u8],
-    k: Standing,
-    f: Field,
-    rec: &[u8; 11],
-    plain: bool,
-) -> io::Result<()> {
-    let r = k.regs;
-    let n = k.steps.wrapping_add(1);
-    let line = runlines::differs(text::blank(), n, f, here(k, f), recorded(rec, f), plain);
-    show::write(rt, line)?;
-    show::write(rt, runlines::there(text::blank(), rom, r.pc, plain))?;
-    counts(rt, k, b"before it: records ", plain)?;
-    registers(rt, k, plain)
-}
-
-fn halted(
-    rt: &impl Print,
-    rom: &[u8],
-    k: Standing,
-    f: refusal::Refusal,
-    g: Given,
-    plain: bool,
-) -> io::Result<()> {
-    if f.number() == 1 {
-        return show::write(rt, runlines::wrong(text::blank(), g, f, plain));
-    }
-    show::write(rt, runlines::stopped(text::blank(), rom, f, plain))?;
-    counts(rt, k, b"before it: records ", plain)?;
-    registers(rt, k, plain)
-}
-
-fn agreed(rt: &impl Print, k: Standing, plain: bool) -> io::Result<()> {
-    counts(rt, k, b"all records agree: records ", plain)?;
-    registers(rt, k, plain)
-}
-
-fn answer(
-    rt: &impl Print,
-    rom: &[u8],
-    k: Standing,
-    g: Given,
-    rec: &[u8; 11],
-    plain: bool,
-) -> io::Result<()> {
-    let e = replay::end(k);
-    let t = e.report;
-    match t {
-        Report::Agreed => agreed(rt, k, plain),
-        Report::Differs(f) => differs(rt, rom, k, f, rec, plain),
-        Report::Halted(f) => halted(rt, rom, k, f, g, plain),
-    }
-}
-
-fn recording(
-    rt: &(impl Print + Eprint + Env),
-    q: Request,
-    from: &mut impl Read,
-    rom: &[u8],
-    ram: &mut [u8],
-    g: Given,
-    r: Registers,
-) -> io::Result<()> {
-    let area = g.area;
-    let site = Site { area };
-    let b = Board { base: g.base, site };
-    let k = replay::begin(b, rom, &ram[..], r);
-    let stage = k.stage;
-    let f = Reached {
-        standing: k,
-        bytes: 0,
-        over: told(stage),
-    };
-    let mut rec = [0u8; 11];
-    match follow(rt, from, f, b, rom, ram, &mut rec) {
-        Ok(e) => {
-            let s = e.standing;
-            answer(rt, rom, s, g, &rec, q.plain)
+    fn tell_replay(&self, progress: &Progress, task: &Task) -> io::Result<()> {
+        match replay::end(progress.standing).report {
+            Report::Agreed => self.tell_standing(&progress.standing, "all records agree: records "),
+            Report::Differs(field) => self.tell_difference(progress, task, field),
+            Report::Halted(why) => self.tell_halt(progress, task, why),
         }
-        Err(e) => file::unread(rt, q.plain, b"RECORDING", q.fourth, e),
     }
-}
 
-// Whether argument i is a single dash, which stands for what comes in.
-fn is_dash(rt: &impl Env, i: usize) -> bool {
-    let mut buf = [0u8; ask::LONGEST];
-    let n = ask::bytes_at(rt, i, &mut buf);
-    n == 1 && buf[0] == b'-'
-}
+    fn tell_difference(&self, progress: &Progress, task: &Task, field: Field) -> io::Result<()> {
+        let plain = self.request.plain;
+        let standing = &progress.standing;
+        let n = standing.steps.wrapping_add(1);
+        let here = progress.here(field);
+        let there = progress.recorded(field);
+        self.say(|l| runlines::differs(l, n, field, here, there, plain))?;
+        self.say(|l| runlines::there(l, task.rom, standing.regs.pc, plain))?;
+        self.tell_standing(standing, "before it: records ")
+    }
 
-// The file, or what comes in, for a single dash.
-fn opened(
-    rt: &impl Runtime,
-    q: Request,
-    rom: &[u8],
-    ram: &mut [u8],
-    g: Given,
-    r: Registers,
-) -> io::Result<()> {
-    if is_dash(rt, q.fourth) {
-        return recording(rt, q, &mut rt.reader(), rom, ram, g, r);
+    fn tell_halt(&self, progress: &Progress, task: &Task, why: Refusal) -> io::Result<()> {
+        let plain = self.request.plain;
+        if let Refusal::BadBoard = why {
+            return self.say(|l| runlines::wrong(l, task.given, why, plain));
+        }
+        self.say(|l| runlines::stopped(l, task.rom, why, plain))?;
+        self.tell_standing(&progress.standing, "before it: records ")
     }
-    match file::open(rt, q.fourth) {
-        Ok(mut from) => recording(rt, q, &mut from, rom, ram, g, r),
-        Err(e) => file::unread(rt, q.plain, b"RECORDING", q.fourth, e),
-    }
-}
 
-fn lent(
-    rt: &impl Runtime,
-    q: Request,
-    rom: &[u8],
-    ram: &mut [u8],
-    g: Given,
-    r: Registers,
-) -> io::Result<()> {
-    let n = g.length as usize;
-    if n <= ram.len() {
-        opened(rt, q, rom, &mut ram[0..n], g, r)?;
+    // The records that agreed and their states, and the registers behind them.
+    fn tell_standing(&self, standing: &Standing, first: &str) -> io::Result<()> {
+        let plain = self.request.plain;
+        let answer = RunAnswer {
+            regs: standing.regs,
+            steps: standing.steps,
+            states: standing.states,
+            why: Ending::Spent,
+        };
+        self.say(|l| runlines::replayed(
+            l,
+            first,
+            answer.steps,
+            ", states ",
+            answer.states,
+            plain,
+        ))?;
+        self.say(|l| runlines::registers(l, answer, plain))
     }
-    Ok(())
-}
-
-// The registers; all else is there.
-fn begun(rt: &impl Runtime, q: Request, rom: &[u8], ram: &mut [u8], g: Given) -> io::Result<()> {
-    let s = asked::start(rt, q.plain, q.count, g.entry)?;
-    if !s.bad {
-        let r = s.regs;
-        lent(rt, q, rom, ram, g, r)?;
-    }
-    Ok(())
-}
-
-// The ports; the registers are left.
-fn with_ports(
-    rt: &impl Runtime,
-    q: Request,
-    rom: &[u8],
-    ram: &mut [u8],
-    g: Given,
-) -> io::Result<()> {
-    let p = asked::ports(rt, q, g.base)?;
-    if !p.bad {
-        let area = p.area;
-        begun(rt, q, rom, ram, asked::with_area(g, area, rom))?;
-    }
-    Ok(())
-}
-
-pub fn show_replay(rt: &impl Runtime, q: Request, rom: &[u8], ram: &mut [u8]) -> io::Result<()> {
-    let w = asked::numbers(rt, q)?;
-    if w.bad {
-        return Ok(());
-    }
-    if q.fourth == 0 {
-        return fault::missing(rt, q.plain, b"RECORDING", b"a file");
-    }
-    let g = w.given;
-    with_ports(rt, q, rom, ram, g)
 }

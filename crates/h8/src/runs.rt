@@ -1,166 +1,123 @@
 // h8 run: what is asked, the trace and the run.
-use crate::ask::Request;
-use crate::{asked, show};
-use memory::Board;
+use crate::fault::Fault;
+use crate::show::Tool;
+use crate::{asked, file};
 use registers::Registers;
+use routine::RoutineAnswer;
+use run::RunAnswer;
 use runlines::Given;
-use site::Site;
-use std::env::Env;
 use std::io;
+use std::rt::Runtime;
+use text::Line;
 
-fn board(g: Given) -> Board {
-    let area = g.area;
-    let site = Site { area };
-    Board { base: g.base, site }
+// What is run: the numbers that were asked for, the registers at the start, and the ROM.
+#[derive(Clone, Copy)]
+pub struct Task<'a> {
+    pub given: Given,
+    pub regs: Registers,
+    pub rom: &'a [u8],
 }
 
-// One step, with what it touched; the registers that it leaves.
-fn step_shown(
-    rt: &impl Print,
-    b: Board,
-    rom: &[u8],
-    ram: &mut [u8],
-    r: Registers,
-    plain: bool,
-) -> io::Result<Registers> {
-    let w = watch::single(b, rom, ram, r);
-    let a = w.answer;
-    let l = w.list;
-    show::write(rt, runlines::traced(rom, r.pc, a.states, l, plain))?;
-    Ok(a.regs)
+// What a run came to, in two texts: how it went, and the registers that it leaves.
+trait Told {
+    fn steps(&self) -> u32;
+
+    fn ran(&self, l: &mut Line, task: &Task, plain: bool);
+
+    fn registers(&self, l: &mut Line, plain: bool);
 }
 
-// So many steps from the start, one after the other. A run has said how many it completed.
-fn trace(
-    rt: &impl Print,
-    b: Board,
-    rom: &[u8],
-    ram: &mut [u8],
-    start: Registers,
-    steps: u32,
-    plain: bool,
-) -> io::Result<()> {
-    let mut r = start;
-    for _ in 0..steps {
-        r = step_shown(rt, b, rom, ram, r, plain)?;
+impl Told for RunAnswer {
+    fn steps(&self) -> u32 {
+        self.steps
     }
-    Ok(())
-}
 
-// The trace has a working memory of its own, `again`: both begin as zeros. Where nothing ran the answer stands alone, since its first line says that.
-fn traced(
-    rt: &impl Print,
-    q: Request,
-    rom: &[u8],
-    again: &mut [u8],
-    g: Given,
-    r: Registers,
-    steps: u32,
-) -> io::Result<()> {
-    if (q.trace != 0) & (0 < steps) {
-        show::write(rt, runlines::trace_heading(text::blank(), q.plain))?;
-        trace(rt, board(g), rom, again, r, steps, q.plain)?;
+    fn ran(&self, l: &mut Line, task: &Task, plain: bool) {
+        runlines::ran(l, task.rom, task.given, *self, plain);
     }
-    Ok(())
-}
 
-fn go(
-    rt: &impl Print,
-    q: Request,
-    rom: &[u8],
-    ram: &mut [u8],
-    again: &mut [u8],
-    g: Given,
-    r: Registers,
-) -> io::Result<()> {
-    let a = run::run(board(g), rom, ram, r, g.stop, g.budget);
-    traced(rt, q, rom, again, g, r, a.steps)?;
-    show::write(rt, runlines::ran(text::blank(), rom, g, a, q.plain))?;
-    show::write(rt, runlines::registers(text::blank(), a, q.plain))
-}
-
-// To the return of the routine at the entry.
-fn go_out(
-    rt: &impl Print,
-    q: Request,
-    rom: &[u8],
-    ram: &mut [u8],
-    again: &mut [u8],
-    g: Given,
-    r: Registers,
-) -> io::Result<()> {
-    let a = routine::routine(board(g), rom, ram, r, g.stop, g.budget);
-    traced(rt, q, rom, again, g, r, a.steps)?;
-    show::write(rt, runlines::ran_out(text::blank(), rom, g, a, q.plain))?;
-    show::write(rt, runlines::out_registers(text::blank(), a, q.plain))
-}
-
-fn lent(
-    rt: &impl Print,
-    q: Request,
-    rom: &[u8],
-    ram: &mut [u8],
-    again: &mut [u8],
-    g: Given,
-    r: Registers,
-) -> io::Result<()> {
-    let n = g.length as usize;
-    if ram.len() < n {
-        return Ok(());
-    }
-    if again.len() < n {
-        return Ok(());
-    }
-    if q.routine == 0 {
-        go(rt, q, rom, &mut ram[0..n], &mut again[0..n], g, r)
-    } else {
-        go_out(rt, q, rom, &mut ram[0..n], &mut again[0..n], g, r)
+    fn registers(&self, l: &mut Line, plain: bool) {
+        runlines::registers(l, *self, plain);
     }
 }
 
-// The registers; all else is there.
-fn begun(
-    rt: &(impl Print + Env),
-    q: Request,
-    rom: &[u8],
-    ram: &mut [u8],
-    again: &mut [u8],
-    g: Given,
-) -> io::Result<()> {
-    let s = asked::start(rt, q.plain, q.count, g.entry)?;
-    if !s.bad {
-        lent(rt, q, rom, ram, again, g, s.regs)?;
+impl Told for RoutineAnswer {
+    fn steps(&self) -> u32 {
+        self.steps
     }
-    Ok(())
+
+    fn ran(&self, l: &mut Line, task: &Task, plain: bool) {
+        runlines::ran_out(l, task.rom, task.given, *self, plain);
+    }
+
+    fn registers(&self, l: &mut Line, plain: bool) {
+        runlines::out_registers(l, *self, plain);
+    }
 }
 
-// The ports; the registers are left.
-fn with_ports(
-    rt: &(impl Print + Env),
-    q: Request,
-    rom: &[u8],
-    ram: &mut [u8],
-    again: &mut [u8],
-    g: Given,
-) -> io::Result<()> {
-    let p = asked::ports(rt, q, g.base)?;
-    if !p.bad {
-        let area = p.area;
-        begun(rt, q, rom, ram, again, asked::with_area(g, area, rom))?;
+impl<R: Runtime> Tool<'_, R> {
+    // Memories lie in arrays, the longest that can be asked for, so that none can run out.
+    pub fn run(&self) -> Result<(), Fault> {
+        let mut room: file::Room = [0; 524290];
+        let mut ram = [0u8; asked::LONGEST];
+        let mut again = [0u8; asked::LONGEST];
+        let rom = file::load(self.rt, self.request.rom()?, &mut room)?;
+        self.run_in(rom, &mut ram, &mut again)
     }
-    Ok(())
-}
 
-pub fn show_run(
-    rt: &(impl Print + Env),
-    q: Request,
-    rom: &[u8],
-    ram: &mut [u8],
-    again: &mut [u8],
-) -> io::Result<()> {
-    let w = asked::numbers(rt, q)?;
-    if !w.bad {
-        with_ports(rt, q, rom, ram, again, w.given)?;
+    fn run_in(
+        &self,
+        rom: &[u8],
+        ram: &mut [u8; asked::LONGEST],
+        again: &mut [u8; asked::LONGEST],
+    ) -> Result<(), Fault> {
+        let numbers = asked::numbers(self.rt, &self.request, rom)?;
+        let n = numbers.length as usize;
+        let area = asked::ports(self.rt, self.request.port, numbers.base)?;
+        let given = Given { area, ..numbers };
+        let regs = asked::registers(self.rt, given.entry)?;
+        let task = Task { given, regs, rom };
+        Ok(self.go(&task, &mut ram[..n], &mut again[..n])?)
     }
-    Ok(())
+
+    // To the return of the routine at the entry, or to the end of a run.
+    fn go(&self, task: &Task, ram: &mut [u8], again: &mut [u8]) -> io::Result<()> {
+        let g = task.given;
+        let board = asked::board(&g);
+        if self.request.routine.is_some() {
+            let answer = routine::routine(board, task.rom, ram, task.regs, g.stop, g.budget);
+            self.tell(task, again, answer)
+        } else {
+            let answer = run::run(board, task.rom, ram, task.regs, g.stop, g.budget);
+            self.tell(task, again, answer)
+        }
+    }
+
+    // The trace comes first, in a working memory of its own: both begin as zeros.
+    fn tell<T: Told + Drop>(&self, task: &Task, again: &mut [u8], answer: T) -> io::Result<()> {
+        let plain = self.request.plain;
+        if self.request.trace.is_some() {
+            self.trace(task, again, answer.steps())?;
+        }
+        self.say(|l| answer.ran(l, task, plain))?;
+        self.say(|l| answer.registers(l, plain))
+    }
+
+    // So many steps from the start, one after the other. Where nothing ran the answer stands alone, since its first line says that.
+    fn trace(&self, task: &Task, ram: &mut [u8], steps: u32) -> io::Result<()> {
+        if steps == 0 {
+            return Ok(());
+        }
+        let plain = self.request.plain;
+        self.say(|l| runlines::trace_heading(l, plain))?;
+        let board = asked::board(&task.given);
+        let mut regs = task.regs;
+        for _ in 0..steps {
+            let step = watch::single(board, task.rom, ram, regs);
+            let states = step.answer.states;
+            self.show(runlines::traced(task.rom, regs.pc, states, &step.list, plain))?;
+            regs = step.answer.regs;
+        }
+        Ok(())
+    }
 }

@@ -1,4 +1,5 @@
 -- What `figure` promises of its answer, told in numbers.
+use Rattle.std.specs.Prelude.{Result, Ok, Err}
 use mathlib.Core.Path.{◌≡◌, refl, ap, subst}
 use mathlib.Core.List.{List}
 use Prim.Native.Nat.{ℕ, ◌≤◌}
@@ -10,8 +11,6 @@ use Rattle.refusal.specs.declared.Refusal.TheVariants.{BadBoard, FetchOutside, U
 use Rattle.site.specs.declared.Site.{Site}
 use Rattle.figure.specs.Answer.{RefusedExactly}
 use Rattle.figure.specs.Bound.{RunsKept}
-use Rattle.figure.specs.declared.Verdict.{Verdict}
-use Rattle.figure.specs.declared.Verdict.TheVariants.{Longest, Forbids}
 use Rattle.layout.specs.Board.{site_of}
 use Rattle.layout.specs.Lent.{overwrite}
 use Rattle.host.specs.Answers.{Noted, noted, tell, refuse}
@@ -42,31 +41,31 @@ numbered ReplayEnded = omega arith
 numbered (TooLong p) = omega arith
 
 module _ (answer : List ℕ) {new : List ℕ} {n : ℕ} where
-  returned_figure : (k : ℕ) → noted n new ≡ figure_told (Longest k) answer → n ≡ 0
+  returned_figure : (k : ℕ) → noted n new ≡ figure_told (Ok k) answer → n ≡ 0
   unfolding figure_told tell
   returned_figure k e = ap (λ (m : Noted). m.returned) e
 
-  answered_figure : (k : ℕ) → noted n new ≡ figure_told (Longest k) answer → get_or new 3 0 ≡ k
+  answered_figure : (k : ℕ) → noted n new ≡ figure_told (Ok k) answer → get_or new 3 0 ≡ k
   unfolding figure_told tell overwrite
   answered_figure k e = ap (λ (m : Noted). get_or m.answer 3 0) e
 
-  returned_refusal : (f : Refusal) → noted n new ≡ figure_told (Forbids f) answer → n ≡ 0 → ⊥
+  returned_refusal : (f : Refusal) → noted n new ≡ figure_told (Err f) answer → n ≡ 0 → ⊥
   unfolding figure_told refuse tell
   returned_refusal f e z = let x : n ≡ number_of f = ap (λ (m : Noted). m.returned) e in omega (arith, numbered f)
 
   module _ (board rom : List ℕ) (entry : ℕ) where
-    exactly : (table : List ℕ) (v : Verdict) → noted n new ≡ figure_told v answer → RefusedExactly (site_of board) rom entry table v
+    exactly : (table : List ℕ) (v : Result ℕ Refusal) → noted n new ≡ figure_told v answer → RefusedExactly (site_of board) rom entry table v
         → FigureExactly board rom entry table answer n
-    exactly table (Longest k) e x h fit =
+    exactly table (Ok k) e x h fit =
         ((λ some. absurd (some (returned_figure k e))), (λ met. absurd (let z : ◌≡◌ {A = ℕ} 0 1 = cc ((x fit).1 met).1 in omega arith)))
-    exactly table (Forbids f) e x h fit = ((λ some. (x fit).0 (f, refl)), (λ met. returned_refusal f e))
+    exactly table (Err f) e x h fit = ((λ some. (x fit).0 (f, refl)), (λ met. returned_refusal f e))
 
-    kept : (v : Verdict) → noted n new ≡ figure_told v answer → RunsKept (site_of board) rom entry v → FigureKept board rom entry n new
-    kept (Longest k) e runs zero = rw (answered_figure k e) runs
-    kept (Forbids f) e runs zero = absurd (returned_refusal f e zero)
+    kept : (v : Result ℕ Refusal) → noted n new ≡ figure_told v answer → RunsKept (site_of board) rom entry v → FigureKept board rom entry n new
+    kept (Ok k) e runs zero = rw (answered_figure k e) runs
+    kept (Err f) e runs zero = absurd (returned_refusal f e zero)
 
     -- the site that was read from the board
-    module _ {k : Site} (s : k ≡ site_of board) (v : Verdict) (e : noted n new ≡ figure_told v answer) where
+    module _ {k : Site} (s : k ≡ site_of board) (v : Result ℕ Refusal) (e : noted n new ≡ figure_told v answer) where
       pub figure_exactly : (table : List ℕ) → RefusedExactly k rom entry table v → FigureExactly board rom entry table answer n
       figure_exactly table x = exactly table v e (subst (λ (j : Site). RefusedExactly j rom entry table v) s x)
 

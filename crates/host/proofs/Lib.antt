@@ -6,3 +6,5 @@ mod Figured
 mod One
 mod Carrying
 mod Within
+mod Entered
+mod Numbered

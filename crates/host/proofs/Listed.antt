@@ -1,18 +1,16 @@
--- The thirteen numbers of a step's list, as the code stores them: its count, and four accesses. Assumes nothing.
-use Prim.Native.Nat.{ℕ, zero, suc, ◌+◌, ◌*◌, ◌≤◌}
+-- The thirteen numbers of a step's list, as the code stores them: its count, and four accesses, one after the other. Assumes nothing.
+use Prim.Native.Nat.{ℕ, zero, suc, ◌+◌, ◌-◌, ◌*◌, ◌≤◌, ◌<◌}
 use mathlib.Core.Path.{◌≡◌, refl, subst, ◌∙◌}
 use mathlib.Core.List.{List, [], ◌∷◌}
+use native.Mathlib.Numerals.{add-one}
 use native.Mathlib.Omega.{arith}
-use lib.ListN.{length, set}
+use lib.ListN.{length, set, get_or, drop}
 use lib.Seq.{sets}
 use Rattle.arith.specs.Widths.{num}
 use Rattle.memory.specs.declared.told.Access.{Access}
-use Rattle.watch.specs.Watch.{list_in}
-use Rattle.watch.specs.declared.Listed.{Listed}
-use Rattle.watch.specs.declared.Listed.TheVariants.{Empty, Solo, Duo, Trio, Quartet}
 use Rattle.host.specs.Answers.{noted, tell}
 use Rattle.host.specs.Steps.{entries, touched, step_length}
-use Rattle.host.specs.MirrorSteps.{no_entry, three, thirteen}
+use Rattle.host.specs.MirrorSteps.{no_entry, three}
 use Rattle.host.proofs.Told.{stored_told}
 
 -- three numbers stored one after the other are those of an access
@@ -24,22 +22,29 @@ access_stored x i l {a} {b} {c} p q r =
     subst (λ (k : ℕ). c ≡ set (set (set l i x.place) (suc i) x.bytes) k (num x.write)) f
     (subst (λ (k : ℕ). c ≡ set (set (set l i x.place) k x.bytes) (i + 2) (num x.write)) e (r ∙ rw (q, p)))
 
--- the count and four accesses stored, of a list of so many
-module _ {l : Listed} (before : List ℕ) {after : List ℕ} where
-  pub none_told : {no : Access} → l ≡ Empty → no ≡ no_entry → after ≡ sets before 4 (thirteen 0 no no no no) → after ≡ sets before 4 (touched (list_in l))
-  none_told {no} h e p = p ∙ rw (h, e)
+-- the accesses from number i on, one of them stored
+entries_first : (n : ℕ) (xs : List Access) → entries (suc n) xs ≡ three (get_or xs 0 no_entry) (entries n (drop 1 xs))
+entries_first n [] = refl
+entries_first n (x ∷ xs) = refl
 
-  pub one_told : {no x : Access} → l ≡ Solo x → no ≡ no_entry → after ≡ sets before 4 (thirteen 1 x no no no) → after ≡ sets before 4 (touched (list_in l))
-  one_told {no} {x} h e p = p ∙ rw (h, e)
+first_from : (xs : List Access) (i : ℕ) → get_or (drop i xs) 0 no_entry ≡ get_or xs i no_entry
+first_from xs zero = refl
+first_from [] (suc i) = refl
+first_from (x ∷ xs) (suc i) = first_from xs i
 
-  pub two_told : {no x y : Access} → l ≡ Duo x y → no ≡ no_entry → after ≡ sets before 4 (thirteen 2 x y no no) → after ≡ sets before 4 (touched (list_in l))
-  two_told {no} {x} {y} h e p = p ∙ rw (h, e)
+rest_from : (xs : List Access) (i : ℕ) → drop 1 (drop i xs) ≡ drop (suc i) xs
+rest_from [] zero = refl
+rest_from [] (suc i) = refl
+rest_from (x ∷ xs) zero = refl
+rest_from (x ∷ xs) (suc i) = rest_from xs i
 
-  pub three_told : {no x y z : Access} → l ≡ Trio x y z → no ≡ no_entry → after ≡ sets before 4 (thirteen 3 x y z no) → after ≡ sets before 4 (touched (list_in l))
-  three_told {no} {x} {y} {z} h e p = p ∙ rw (h, e)
-
-  pub four_told : {x y z t : Access} → l ≡ Quartet x y z t → after ≡ sets before 4 (thirteen 4 x y z t) → after ≡ sets before 4 (touched (list_in l))
-  four_told {x} {y} {z} {t} h p = p ∙ rw h
+pub one_told : (l : List ℕ) (xs : List Access) (i : ℕ) → i < 4
+    → sets (sets l (5 + 3 * i) (three (get_or xs i no_entry) [])) (5 + 3 * (i + 1)) (entries (4 - (i + 1)) (drop (i + 1) xs))
+    ≡ sets l (5 + 3 * i) (entries (4 - i) (drop i xs))
+one_told l xs i h =
+    let e : 5 + 3 * (i + 1) ≡ suc (suc (suc (5 + 3 * i))) = omega arith in
+    let f : 4 - i ≡ suc (4 - (i + 1)) = omega arith in
+    rw (e, f, entries_first (4 - (i + 1)) (drop i xs), first_from xs i, rest_from xs i, add-one)
 
 entries_length : (n : ℕ) (xs : List Access) → length (entries n xs) ≡ n * 3
 entries_length zero xs = refl

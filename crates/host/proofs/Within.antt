@@ -1,5 +1,6 @@
 -- The figure and h8_routine. Where `figure` answers n for an entry, the run that h8_routine makes from there, `routine_of`, with any stop address and any budget
 -- that is allowed, has at most n states, and makes no ninth level of calls. Assumes nothing.
+use Rattle.std.specs.Prelude.{Ok}
 use mathlib.Core.Path.{◌≡◌, refl}
 use mathlib.Core.Bool.{true}
 use mathlib.Core.List.{List}
@@ -16,7 +17,6 @@ use Rattle.step.specs.Processor.{processor}
 use Rattle.paths.specs.Runs as runs
 use Rattle.paths.specs.Runs.{Off, Run, returns, stops, leaves, Fair, Bounded}
 use Rattle.figure.specs.Bound.{Carrying, RunsKept}
-use Rattle.figure.specs.declared.Verdict.TheVariants.{Longest}
 use Rattle.figure.proofs.Promise.{one_run}
 use Rattle.run.specs.Repeated.{state}
 use Rattle.routine.specs.Routine.{routine_of}
@@ -53,7 +53,7 @@ module _ (b : Board) (rom : List ℕ) {s : Keeps (processor b rom)} {n : ℕ} (B
     within (elsewhere_met l a h r) = the_run (leaves (off (keeping (processor b rom)) stop l) r)
     within (returned l a h r d) = the_run (returns (off (keeping (processor b rom)) stop l) r d)
 
-pub routine_within : (k : Site) (rom : List ℕ) (n : ℕ) (b : Board) (ram : List ℕ) (r : Registers) (stop budget : ℕ) → RunsKept k rom r.pc (Longest n) → Carrying k b
+pub routine_within : (k : Site) (rom : List ℕ) (n : ℕ) (b : Board) (ram : List ℕ) (r : Registers) (stop budget : ℕ) → RunsKept k rom r.pc (Ok n) → Carrying k b
     → good_board b (length rom) (length ram) ≡ true → good_pc r.pc ≡ true → budget ≤ 1000000
     → ((routine_of b rom ram r stop budget).answer.states ≤ n) × Allowed (routine_of b rom ram r stop budget).answer.why
 routine_within k rom n b ram r stop budget runs on good at small =

@@ -1,14 +1,13 @@
 -- host/h8.h, h8_replay_begin, h8_replay_take and h8_replay_end: what they return and leave in the lent arrays. A replay is carried from call to call as the
 -- numbers of a lent array (`carried`).
-use Rattle.std.specs.Prelude.{ℕ, cond, List, [], ◌∷◌, ltb, length, get_or}
+use Rattle.std.specs.Prelude.{ℕ, cond, List, [], ◌∷◌, ltb, length, get_or, Option, Some, None}
+use Rattle.replay.specs.declared.Report.{Report}
 use Rattle.refusal.specs.declared.Refusal.TheVariants.{BadBoard, LentTooShort}
 use Rattle.replay.specs.Replay.{moment, standing, begun, ended_of}
 use Rattle.replay.specs.Cuts.{Arrived, said_of, deliver_of}
 use Rattle.replay.specs.declared.Report.TheVariants.{Halted}
 use Rattle.replay.specs.declared.Stage.TheVariants.{Told}
 use Rattle.replay.specs.declared.Standing.{Standing}
-use Rattle.replay.specs.declared.Said.{Said}
-use Rattle.replay.specs.declared.Said.TheVariants.{More, Final}
 use Rattle.carried.specs.Carried.{replay_length, numbers_of, standing_of}
 use Rattle.layout.specs.Lent.{overwrite}
 use Rattle.layout.specs.Board.{board_of}
@@ -30,12 +29,12 @@ abbrev pub with_replay : List ℕ → Noted → Carrying
 with_replay replay n = carrying n.returned replay n.answer
 
 -- all agreed so far and more may come: H8_MORE; else as h8_replay's
-unfoldable pub said_answer : Said → ℕ → ℕ → List ℕ
-said_answer More steps states = completed (steps ∷ states ∷ 3 ∷ 0 ∷ [])
-said_answer (Final t) steps states = replay_answer t steps states
+unfoldable pub said_answer : Option Report → ℕ → ℕ → List ℕ
+said_answer None steps states = completed (steps ∷ states ∷ 3 ∷ 0 ∷ [])
+said_answer (Some t) steps states = replay_answer t steps states
 
 -- the replay's numbers are those of k, and the answer says s
-unfoldable pub carried_on : Standing → Said → List ℕ → List ℕ → Carrying
+unfoldable pub carried_on : Standing → Option Report → List ℕ → List ℕ → Carrying
 carried_on k s replay answer = with_replay (overwrite (numbers_of k) replay) (tell (said_answer s k.steps k.states) answer)
 
 -- a lent array that is too short: 13, and nothing changes but the answer
@@ -81,4 +80,4 @@ end_call replay answer =
     let a = ended_of (standing_of replay) in
     cond (ltb (length answer) 7) (carrying 13 replay answer)
     (cond (ltb (length replay) replay_length) (too_short replay_length replay answer)
-    (carried_on a.replay (Final a.report) replay answer))
+    (carried_on a.replay (Some a.report) replay answer))

@@ -1,4 +1,5 @@
 pub mod Answers
+pub mod MirrorAnswers
 pub mod Codes
 pub mod Steps
 pub mod Routines
@@ -7,4 +8,5 @@ pub mod MirrorCodes
 pub mod MirrorSteps
 pub mod Replays
 pub mod MirrorReplays
+pub mod MirrorRoutines
 pub mod Cuts

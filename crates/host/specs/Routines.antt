@@ -14,7 +14,7 @@ use Rattle.host.specs.Steps.{Left, left, leaving}
 
 -- the steps, their states, the ending, how many addresses are kept, and these, in the order pushed
 abbrev pub kept_numbers : RoutineAnswer → ℕ → List ℕ
-kept_numbers q ending = q.steps ∷ q.states ∷ ending ∷ q.count ∷ eight_of q.kept
+kept_numbers q ending = q.steps ∷ q.states ∷ ending ∷ q.kept.count ∷ eight_of q.kept.addresses
 
 -- [number, place, group, steps, states, ending, count, eight addresses]; enum h8_ending
 unfoldable pub routine_told : Ending → RoutineAnswer → List ℕ

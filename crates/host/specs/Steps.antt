@@ -1,12 +1,9 @@
 -- host/h8.h, h8_step and h8_run: what they return and leave in the lent arrays.
-use Rattle.std.specs.Prelude.{ℕ, zero, suc, ◌+◌, ◌≡◌, cond, List, [], ◌∷◌, ltb, eqb, length, get_or, drop}
+use Rattle.std.specs.Prelude.{ℕ, zero, suc, ◌+◌, ◌≡◌, cond, List, [], ◌∷◌, ltb, eqb, length, get_or, drop, Result, Ok, Err}
 use Rattle.arith.specs.Widths.{num}
 use Rattle.refusal.specs.declared.Refusal.{Refusal}
 use Rattle.refusal.specs.declared.Refusal.TheVariants.{BadBoard, BudgetTooLarge, LentTooShort}
-use Rattle.refusal.specs.declared.Outcome.{Outcome}
-use Rattle.refusal.specs.declared.Outcome.TheVariants.{Done, Refused}
 use Rattle.codes.specs.declared.Instruction.{Instruction}
-use Rattle.codes.specs.declared.Decoded.TheVariants.{Code}
 use Rattle.decoder.specs.MirrorDecode.{decode_of}
 use Rattle.step.specs.Step.{After, step_of}
 use Rattle.memory.specs.declared.told.Access.{Access}
@@ -50,22 +47,22 @@ abbrev pub touched : List Access → List ℕ
 touched xs = length xs ∷ entries 4 xs
 
 -- [number, place, group, states, count, four accesses]
-unfoldable pub step_answer : Outcome → ℕ → List Access → List ℕ
-step_answer Done states xs = completed (states ∷ touched xs)
-step_answer (Refused f) states xs = refused_with f (0 ∷ touched [])
+unfoldable pub step_answer : Result (Unit {0}) Refusal → ℕ → List Access → List ℕ
+step_answer (Ok tt) states xs = completed (states ∷ touched xs)
+step_answer (Err f) states xs = refused_with f (0 ∷ touched [])
 
 -- a step that is done leaves working memory and registers as it says; a refused one leaves both as they were
-unfoldable pub step_left : Outcome → After → List Access → List ℕ → List ℕ → List ℕ → Left
-step_left Done a xs ram regs answer =
-    leaving a.mem (overwrite (ten_of a.answer.regs) regs) (tell (step_answer Done a.answer.states xs) answer)
-step_left (Refused f) a xs ram regs answer = leaving ram regs (tell (step_answer (Refused f) 0 []) answer)
+unfoldable pub step_left : Result (Unit {0}) Refusal → After → List Access → List ℕ → List ℕ → List ℕ → Left
+step_left (Ok tt) a xs ram regs answer =
+    leaving a.mem (overwrite (ten_of a.answer.regs) regs) (tell (step_answer (Ok tt) a.answer.states xs) answer)
+step_left (Err f) a xs ram regs answer = leaving ram regs (tell (step_answer (Err f) 0 []) answer)
 
 -- 13 for the answer; 13 for the registers; 1 for a condition number over 255; then the step
 unfoldable pub step_call : List ℕ → List ℕ → List ℕ → List ℕ → List ℕ → Left
 step_call board rom ram regs answer =
     let a = step_of (board_of board) rom ram (registers_of regs) in
     let xs = list_of (board_of board) rom ram (registers_of regs) in
-    let refused : Refusal → Left = λ f. leaving ram regs (tell (step_answer (Refused f) 0 []) answer) in
+    let refused : Refusal → Left = λ f. leaving ram regs (tell (step_answer (Err f) 0 []) answer) in
     cond (ltb (length answer) step_length) (left 13 ram regs answer)
     (cond (ltb (length regs) registers_length) (refused (LentTooShort registers_length))
     (cond (ltb 255 (get_or regs 9 0)) (refused BadBoard)
@@ -85,7 +82,7 @@ touched_in answer = accesses_in (get_or answer 4 0) answer 5
 -- where 0 is returned, the states in answer[3] are the fetch and internal states of the instruction and the sum over the accesses that are told
 abbrev pub StepSummed : List ℕ → List ℕ → List ℕ → ℕ → List ℕ → Type 0
 StepSummed board rom regs returned answer =
-    (i : Instruction) (n : ℕ) → returned ≡ 0 → decode_of (registers_of regs).pc (drop (registers_of regs).pc rom) ≡ Code i n
+    (i : Instruction) (n : ℕ) → returned ≡ 0 → decode_of (registers_of regs).pc (drop (registers_of regs).pc rom) ≡ Ok (i, n)
     → get_or answer 3 0 ≡ base_of i + sum_of (board_of board).site (touched_in answer)
 
 -- whatever is returned, a byte of working memory that no write of those accesses reaches has not changed

@@ -1,5 +1,5 @@
 // h8_replay_begin, h8_replay_take and h8_replay_end.
-ghost use Rattle.std.specs.Prelude.{◌≡◌, ◌≤◌, length};
+ghost use Rattle.std.specs.Prelude.{Some, ◌≡◌, ◌≤◌, length};
 ghost use Rattle.host.specs.Answers.{noted, tell};
 ghost use Rattle.host.specs.Steps.{left};
 ghost use Rattle.host.specs.Replays.{replay_answer};
@@ -9,23 +9,24 @@ ghost use Rattle.carried.specs.Carried.{replay_length, standing_of};
 ghost use Rattle.replay.specs.Replay.{moment, ended_of};
 ghost use Rattle.replay.specs.Cuts.{said_of, deliver_of};
 
-use crate::{answers, replays};
+use crate::answers::{Head, told};
+use crate::replays;
 use layout::lent;
 use refusal::Refusal;
-use replay::{Report, Said, Stage, Standing};
+use replay::{Report, Stage, Standing};
 
-fn tell_said(s: Said, steps: u32, states: u64, answer: &mut [u64]) -> u32
+fn tell_said(s: Option<Report>, steps: u32, states: u64, answer: &mut [u64]) -> u32
     requires { 7 ≤ length answer.old }
     ensures { noted result answer.new ≡ tell (said_answer s steps states) answer.old }
 {
     match s {
-        Said::More => answers::told_seven(answer, 0, 0, 0, steps, states, 3, 0),
-        Said::Final(t) => replays::tell_report(t, steps, states, answer),
+        None => told(answer, Head::DONE, &[steps as u64, states, 3, 0]),
+        Some(t) => replays::tell_report(t, steps, states, answer),
     }
 }
 
 // The replay is left in its numbers, and what it says in the answer.
-fn carry(k: Standing, s: Said, replay: &mut [u32], answer: &mut [u64]) -> u32
+fn carry(k: Standing, s: Option<Report>, replay: &mut [u32], answer: &mut [u64]) -> u32
     requires { (replay_length ≤ length replay.old) × (7 ≤ length answer.old) }
     ensures { carrying result replay.new answer.new ≡ carried_on k s replay.old answer.old }
 {
@@ -65,7 +66,7 @@ fn begin_lent(
     carry(k, s, replay, answer)
 }
 
-// 13 with the length that is needed.
+// 13 with the length that is needed. Each of the three looks for it itself: a function that took the call as a closure would promise more than two tests.
 fn too_short(n: usize, answer: &mut [u64]) -> u32
     requires { (7 ≤ length answer.old) × (n ≤ 100) }
     ensures { noted result answer.new ≡ tell (replay_answer (Report.Halted (Refusal.LentTooShort n)) 0 0) answer.old }
@@ -142,12 +143,12 @@ pub extern "C" fn h8_replay_take(
 
 fn end_lent(replay: &mut [u32], answer: &mut [u64]) -> u32
     requires { (replay_length ≤ length replay.old) × (7 ≤ length answer.old) }
-    ensures { carrying result replay.new answer.new ≡ carried_on (ended_of (standing_of replay.old)).replay (Said.Final (ended_of (standing_of replay.old)).report) replay.old answer.old }
+    ensures { carrying result replay.new answer.new ≡ carried_on (ended_of (standing_of replay.old)).replay (Some (ended_of (standing_of replay.old)).report) replay.old answer.old }
 {
     let q = replay::end(carried::replay_in(&replay[..]));
     let k = q.replay;
     let t = q.report;
-    carry(k, Said::Final(t), replay, answer)
+    carry(k, Some(t), replay, answer)
 }
 
 #[unsafe(no_mangle)]

@@ -5,6 +5,7 @@ mod answers;
 mod cuts;
 mod decoding;
 mod figures;
+mod lent;
 mod replays;
 mod routines;
 mod stepping;

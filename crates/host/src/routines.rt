@@ -4,64 +4,80 @@ ghost use Rattle.host.specs.Answers.{noted, tell};
 ghost use Rattle.host.specs.Steps.{left};
 ghost use Rattle.host.specs.Routines.{routine_told, routine_left, unrun, routine_call};
 ghost use Rattle.host.specs.MirrorSteps.{kept, routine_kept};
+ghost use Rattle.host.specs.MirrorRoutines.{numbered_ending};
 ghost use Rattle.layout.specs.Board.{board_of};
-ghost use Rattle.layout.specs.Registers.{registers_length, registers_of};
+ghost use Rattle.layout.specs.Registers.{registers_length};
 ghost use Rattle.routine.specs.Routine.{routine_of};
 
-use crate::answers;
+use crate::answers::{Head, told};
 use layout::lent;
 use refusal::Refusal;
+use registers::Registers;
 use routine::{Ending, RoutineAnswer};
 
-fn tell_why(why: Ending, q: RoutineAnswer, answer: &mut [u64]) -> u32
-    requires { 15 ≤ length answer.old }
-    ensures { noted result answer.new ≡ tell (routine_told why q) answer.old }
+// The head of an ending, and its number in enum h8_ending.
+#[tactic(auto, unfolding(crate::specs::MirrorRoutines::numbered_ending))]
+fn numbered(why: Ending) -> (Head, u64)
+    ensures { result ≡ numbered_ending why }
 {
-    let k = q.kept;
     match why {
-        Ending::AtStop => answers::told_kept(answer, 0, 0, 0, q.steps, q.states, 0, q.count, k),
-        Ending::Spent => answers::told_kept(answer, 0, 0, 0, q.steps, q.states, 1, q.count, k),
-        Ending::Halted(f) => answers::told_kept(
-            answer,
-            f.number(),
-            f.place(),
-            f.group(),
-            q.steps,
-            q.states,
-            2,
-            q.count,
-            k,
-        ),
-        Ending::Returned => answers::told_kept(answer, 0, 0, 0, q.steps, q.states, 3, q.count, k),
-        Ending::Ninth => answers::told_kept(answer, 0, 0, 0, q.steps, q.states, 4, q.count, k),
-        Ending::Elsewhere => answers::told_kept(answer, 0, 0, 0, q.steps, q.states, 5, q.count, k),
+        Ending::AtStop => (Head::DONE, 0),
+        Ending::Spent => (Head::DONE, 1),
+        Ending::Halted(f) => (Head::from(f), 2),
+        Ending::Returned => (Head::DONE, 3),
+        Ending::Ninth => (Head::DONE, 4),
+        Ending::Elsewhere => (Head::DONE, 5),
     }
+}
+
+fn tell_why(q: RoutineAnswer, answer: &mut [u64]) -> u32
+    requires { 15 ≤ length answer.old }
+    ensures { noted result answer.new ≡ tell (routine_told q.why q) answer.old }
+{
+    let (head, ending) = numbered(q.why);
+    let k = q.kept.addresses;
+    told(
+        answer,
+        head,
+        &[
+            q.steps as u64,
+            q.states,
+            ending,
+            q.kept.count as u64,
+            k[0] as u64,
+            k[1] as u64,
+            k[2] as u64,
+            k[3] as u64,
+            k[4] as u64,
+            k[5] as u64,
+            k[6] as u64,
+            k[7] as u64,
+        ],
+    )
 }
 
 fn tell_routine(q: RoutineAnswer, regs: &mut [u32], answer: &mut [u64]) -> u32
     requires { (registers_length ≤ length regs.old) × (15 ≤ length answer.old) }
     ensures { kept result regs.new answer.new ≡ routine_kept q regs.old answer.old }
 {
-    let r = q.regs;
-    let why = q.why;
-    lent::put_registers(regs, r);
-    tell_why(why, q, answer)
+    lent::put_registers(regs, q.regs);
+    tell_why(q, answer)
 }
 
 fn routine_lent(
     board: &[u32],
     rom: &[u8],
     ram: &mut [u8],
+    r: Registers,
     regs: &mut [u32],
     stop: u32,
     budget: u32,
     answer: &mut [u64],
 ) -> u32
     requires { (registers_length ≤ length regs.old) × (15 ≤ length answer.old) }
-    ensures { left result ram.new regs.new answer.new ≡ routine_left (routine_of (board_of board.now) rom.now ram.old (registers_of regs.old) stop budget) regs.old answer.old }
+    ensures { left result ram.new regs.new answer.new ≡ routine_left (routine_of (board_of board.now) rom.now ram.old r stop budget) regs.old answer.old }
 {
-    let b = lent::board_in(board);
-    let q = routine::routine(b, rom, ram, lent::registers_in(&regs[..]), stop, budget);
+    let q = routine::routine(lent::board_in(board), rom, ram, r, stop, budget);
     tell_routine(q, regs, answer)
 }
 
@@ -70,8 +86,7 @@ fn not_run(f: Refusal, answer: &mut [u64]) -> u32
     requires { 15 ≤ length answer.old }
     ensures { noted result answer.new ≡ unrun f answer.old }
 {
-    let none: [u32; 8] = [0; 8];
-    answers::told_kept(answer, f.number(), f.place(), f.group(), 0, 0, 2, 0, none)
+    told(answer, Head::from(f), &[0, 0, 2, 0, 0, 0, 0, 0, 0, 0, 0, 0])
 }
 
 #[unsafe(no_mangle)]
@@ -89,14 +104,8 @@ pub extern "C" fn h8_routine(
     if answer.len() < 15 {
         return 13;
     }
-    if regs.len() < lent::REGISTERS {
-        return not_run(Refusal::LentTooShort(lent::REGISTERS as u32), answer);
+    match crate::lent::registers(&regs[..], budget) {
+        Ok(r) => routine_lent(board, rom, ram, r, regs, stop, budget, answer),
+        Err(f) => not_run(f, answer),
     }
-    if 1000000 < budget {
-        return not_run(Refusal::BudgetTooLarge, answer);
-    }
-    if 255 < lent::number_at(&regs[..], 9) {
-        return not_run(Refusal::BadBoard, answer);
-    }
-    routine_lent(board, rom, ram, regs, stop, budget, answer)
 }

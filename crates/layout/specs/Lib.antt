@@ -4,6 +4,6 @@ pub mod Rows
 pub mod Board
 pub mod Registers
 pub mod Lent
-pub mod MirrorChoices
 pub mod MirrorRows
+pub mod MirrorChoices
 pub mod MirrorLent

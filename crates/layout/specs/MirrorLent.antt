@@ -8,8 +8,6 @@ row_in l =
       kind = get_or l 0 0;
       which = get_or l 1 0;
       width = get_or l 2 0;
-      form = get_or l 3 0;
-      other = get_or l 4 0;
-      value = get_or l 5 0;
+      operand = record { form = get_or l 3 0; other = get_or l 4 0; value = get_or l 5 0 };
       reg = get_or l 6 0;
     }

@@ -39,9 +39,5 @@ pub use Rattle.codes.specs.declared.Instruction.{Instruction}
 pub use Rattle.codes.specs.declared.Instruction.TheVariants.{Nop, Stc, LdcReg, Ccr, Alu, IncDec, AddsSubs, Decimal, Shift, Unary, Multiply, Divide, Takes, Gives, Move, Bcc, Jmp, Bsr, Jsr, Rts}
 pub use Rattle.codes.specs.declared.Goes.{Goes}
 pub use Rattle.codes.specs.declared.Goes.TheVariants.{Onward, Branches, Jumps, CallsNear, Calls, Returns}
-pub use Rattle.codes.specs.declared.Decoded.{Decoded}
-pub use Rattle.codes.specs.declared.Decoded.TheVariants.{Code, NoCode}
-pub use Rattle.codes.specs.declared.Encoded.{Encoded}
-pub use Rattle.codes.specs.declared.Encoded.TheVariants.{Written, NotWritten}
 pub use Rattle.refusal.specs.declared.Refusal.{Refusal}
 pub use Rattle.refusal.specs.declared.Refusal.TheVariants.{UnknownCode, CutShort, NotInstruction, LentTooShort}

@@ -49,7 +49,7 @@ target_row (Direct a) = operand 1 0 a
 target_row (Vector a) = operand 2 0 a
 
 abbrev pub row : ℕ → ℕ → ℕ → Operand → ℕ → Row
-row kind which width o reg = record { kind = kind; which = which; width = width; form = o.form; other = o.other; value = o.value; reg = reg }
+row kind which width o reg = record { kind = kind; which = which; width = width; operand = o; reg = reg }
 
 -- MULXU, MULXS, DIVXU and DIVXS: the width is that of the source
 abbrev pub product_row : ℕ → Sign → Half → ℕ → ℕ → Row
@@ -107,7 +107,7 @@ row_of (Takes take index spot) = bit_row 18 (take_number take) index spot
 row_of (Gives give index spot) = bit_row 19 (give_number give) index spot
 
 abbrev pub seven : Row → List ℕ
-seven f = f.kind ∷ f.which ∷ f.width ∷ f.form ∷ f.other ∷ f.value ∷ f.reg ∷ []
+seven f = f.kind ∷ f.which ∷ f.width ∷ f.operand.form ∷ f.operand.other ∷ f.operand.value ∷ f.reg ∷ []
 
 abbrev pub nine : Row → ℕ → ℕ → List ℕ
 nine f n s = seven f ++ (n ∷ s ∷ [])

@@ -1,174 +1,113 @@
 // An instruction as the first seven numbers of host/h8.h's table, and the instruction that seven numbers name.
-ghost use Rattle.std.specs.Prelude.{◌≡◌, ◌%◌, cond};
-ghost use Rattle.layout.specs.Rows.{no_operand, source_row, by_row, value_row, place_row, reach_row, target_row, row, product_row, index_form, index_other, spot_form, spot_value, spot_reg, bit_row, row_of};
-ghost use Rattle.layout.specs.MirrorRows.{source_at, place_at, reach_at, target_at, index_at, spot_at, read_row, same_of, named_of};
-ghost use Rattle.layout.specs.declared.rows.Named.TheVariants.{Names, NamesNone};
+ghost use Rattle.std.specs.Prelude.{◌≡◌, ◌%◌};
+ghost use Rattle.layout.specs.Rows.{operand, no_operand, source_row, by_row, value_row, place_row, reach_row, target_row, row, product_row, bit_row, row_of};
+ghost use Rattle.layout.specs.MirrorRows.{width_at, half_at, source_at, place_at, reach_at, target_at, index_at, spot_at, read_row, named_of};
 
-use crate::choices;
 use arith::Width;
 use codes::{By, Index, Instruction, Place, Reach, Sign, Source, Spot, Target};
 use products::Half;
+use refusal::Refusal;
 
 // FORM, OTHER and VALUE.
-#[derive(Clone, Copy)]
+#[derive(Clone, Copy, Debug, PartialEq, Eq)]
 pub struct Operand {
     pub form: u32,
     pub other: u32,
     pub value: u32,
 }
 
-#[derive(Clone, Copy)]
+// Numbers and not enums, since a C program lends them (host/h8.h).
+#[derive(Clone, Copy, Debug, PartialEq, Eq)]
 pub struct Row {
     pub kind: u32,
     pub which: u32,
     pub width: u32,
-    pub form: u32,
-    pub other: u32,
-    pub value: u32,
+    pub operand: Operand,
     pub reg: u32,
 }
 
-// The instruction that a row is of, if there is one.
-#[derive(Clone, Copy)]
-pub enum Named {
-    Names(Instruction),
-    NamesNone,
-}
-
-fn no_operand() -> Operand
-    ensures { result ≡ no_operand }
-{
-    Operand {
-        form: 0,
-        other: 0,
-        value: 0,
+impl Operand {
+    fn new(form: u32, other: u32, value: u32) -> Operand
+        ensures { result ≡ operand form other value }
+    {
+        Operand { form, other, value }
     }
 }
 
-fn source_row(source: Source) -> Operand
-    ensures { result ≡ source_row source }
-{
-    match source {
-        Source::Reg(s) => Operand {
-            form: 0,
-            other: s as u32,
-            value: 0,
-        },
-        Source::Imm(v) => Operand {
-            form: 1,
-            other: 0,
-            value: v,
-        },
+impl From<Source> for Operand {
+    ghost from_gives = { λ source o. o ≡ source_row source };
+
+    fn from(source: Source) -> Operand {
+        match source {
+            Source::Reg(s) => Operand::new(0, s as u32, 0),
+            Source::Imm(v) => Operand::new(1, 0, v),
+        }
     }
 }
 
-fn by_row(by: By) -> Operand
-    ensures { result ≡ by_row by }
-{
-    let n = choices::by_number(by);
-    Operand {
-        form: n,
-        other: 0,
-        value: 0,
+impl From<By> for Operand {
+    ghost from_gives = { λ by o. o ≡ by_row by };
+
+    fn from(by: By) -> Operand {
+        Operand::new(by as u32, 0, 0)
     }
 }
 
-fn value_row(v: u8) -> Operand
-    ensures { result ≡ value_row v }
-{
-    Operand {
-        form: 0,
-        other: 0,
-        value: v as u32,
+// The operand of ORC, XORC, ANDC and LDC.
+impl From<u8> for Operand {
+    ghost from_gives = { λ v o. o ≡ value_row v };
+
+    fn from(v: u8) -> Operand {
+        Operand::new(0, 0, v as u32)
     }
 }
 
-fn place_row(p: Place) -> Operand
-    ensures { result ≡ place_row p }
-{
-    match p {
-        Place::At(e) => Operand {
-            form: 0,
-            other: e as u32,
-            value: 0,
-        },
-        Place::Step(e) => Operand {
-            form: 1,
-            other: e as u32,
-            value: 0,
-        },
-        Place::Disp(e, d) => Operand {
-            form: 2,
-            other: e as u32,
-            value: d as u32,
-        },
-        Place::Abs8(a) => Operand {
-            form: 3,
-            other: 0,
-            value: a as u32,
-        },
-        Place::Abs16(a) => Operand {
-            form: 4,
-            other: 0,
-            value: a as u32,
-        },
-        Place::Abs24(a) => Operand {
-            form: 5,
-            other: 0,
-            value: a,
-        },
+impl From<Place> for Operand {
+    ghost from_gives = { λ p o. o ≡ place_row p };
+
+    fn from(p: Place) -> Operand {
+        match p {
+            Place::At(e) => Operand::new(0, e as u32, 0),
+            Place::Step(e) => Operand::new(1, e as u32, 0),
+            Place::Disp(e, d) => Operand::new(2, e as u32, d as u32),
+            Place::Abs8(a) => Operand::new(3, 0, a as u32),
+            Place::Abs16(a) => Operand::new(4, 0, a as u32),
+            Place::Abs24(a) => Operand::new(5, 0, a),
+        }
     }
 }
 
-fn reach_row(reach: Reach) -> Operand
-    ensures { result ≡ reach_row reach }
-{
-    match reach {
-        Reach::Near(d) => Operand {
-            form: 0,
-            other: 0,
-            value: d as u32,
-        },
-        Reach::Far(d) => Operand {
-            form: 1,
-            other: 0,
-            value: d as u32,
-        },
+impl From<Reach> for Operand {
+    ghost from_gives = { λ reach o. o ≡ reach_row reach };
+
+    fn from(reach: Reach) -> Operand {
+        match reach {
+            Reach::Near(d) => Operand::new(0, 0, d as u32),
+            Reach::Far(d) => Operand::new(1, 0, d as u32),
+        }
     }
 }
 
-fn target_row(target: Target) -> Operand
-    ensures { result ≡ target_row target }
-{
-    match target {
-        Target::ByReg(e) => Operand {
-            form: 0,
-            other: e as u32,
-            value: 0,
-        },
-        Target::Direct(a) => Operand {
-            form: 1,
-            other: 0,
-            value: a,
-        },
-        Target::Vector(a) => Operand {
-            form: 2,
-            other: 0,
-            value: a as u32,
-        },
+impl From<Target> for Operand {
+    ghost from_gives = { λ target o. o ≡ target_row target };
+
+    fn from(target: Target) -> Operand {
+        match target {
+            Target::ByReg(e) => Operand::new(0, e as u32, 0),
+            Target::Direct(a) => Operand::new(1, 0, a),
+            Target::Vector(a) => Operand::new(2, 0, a as u32),
+        }
     }
 }
 
-fn made(kind: u32, which: u32, width: u32, o: Operand, reg: u8) -> Row
-    ensures { result ≡ row kind which width o reg }
+fn made(kind: u32, which: u32, width: u32, operand: Operand, reg: u8) -> Row
+    ensures { result ≡ row kind which width operand reg }
 {
     Row {
-        kind: kind,
-        which: which,
-        width: width,
-        form: o.form,
-        other: o.other,
-        value: o.value,
+        kind,
+        which,
+        width,
+        operand,
         reg: reg as u32,
     }
 }
@@ -177,7 +116,7 @@ fn made(kind: u32, which: u32, width: u32, o: Operand, reg: u8) -> Row
 fn bare(kind: u32, which: u32, width: u32, reg: u8) -> Row
     ensures { result ≡ row kind which width no_operand reg }
 {
-    made(kind, which, width, no_operand(), reg)
+    made(kind, which, width, Operand::new(0, 0, 0), reg)
 }
 
 // MULXU, MULXS, DIVXU and DIVXS: the width is that of the source.
@@ -186,76 +125,36 @@ fn product_row(kind: u32, sign: Sign, h: Half, s: u8, d: u8) -> Row
 {
     made(
         kind,
-        choices::sign_number(sign),
-        choices::width_number(products::factor_width(h)),
-        source_row(Source::Reg(s)),
+        sign as u32,
+        products::factor_width(h) as u32,
+        Source::Reg(s).into(),
         d,
     )
-}
-
-fn index_form(index: Index) -> u32
-    ensures { result ≡ index_form index }
-{
-    match index {
-        Index::Numbered(_) => 0,
-        Index::ByPart(_) => 1,
-    }
-}
-
-fn index_other(index: Index) -> u32
-    ensures { result ≡ index_other index }
-{
-    match index {
-        Index::Numbered(n) => n as u32,
-        Index::ByPart(r) => r as u32,
-    }
-}
-
-fn spot_form(spot: Spot) -> u32
-    ensures { result ≡ spot_form spot }
-{
-    match spot {
-        Spot::InPart(_) => 0,
-        Spot::AtEr(_) => 1,
-        Spot::AtAbs(_) => 2,
-    }
-}
-
-fn spot_value(spot: Spot) -> u32
-    ensures { result ≡ spot_value spot }
-{
-    match spot {
-        Spot::InPart(_) => 0,
-        Spot::AtEr(_) => 0,
-        Spot::AtAbs(a) => a as u32,
-    }
-}
-
-fn spot_reg(spot: Spot) -> u32
-    ensures { result ≡ spot_reg spot }
-{
-    match spot {
-        Spot::InPart(d) => d as u32,
-        Spot::AtEr(e) => e as u32,
-        Spot::AtAbs(_) => 0,
-    }
 }
 
 // The bit instructions: the width is the form of the bit's number.
 fn bit_row(kind: u32, which: u32, index: Index, spot: Spot) -> Row
     ensures { result ≡ bit_row kind which index spot }
 {
-    Row {
-        kind: kind,
-        which: which,
-        width: index_form(index),
-        form: spot_form(spot),
-        other: index_other(index),
-        value: spot_value(spot),
-        reg: spot_reg(spot),
-    }
+    let (width, other) = match index {
+        Index::Numbered(n) => (0, n),
+        Index::ByPart(r) => (1, r),
+    };
+    let (form, value, reg) = match spot {
+        Spot::InPart(d) => (0, 0, d),
+        Spot::AtEr(e) => (1, 0, e),
+        Spot::AtAbs(a) => (2, a, 0),
+    };
+    made(
+        kind,
+        which,
+        width,
+        Operand::new(form, other as u32, value as u32),
+        reg,
+    )
 }
 
+#[tactic(auto, unfolding(crate::specs::Rows::row_of))]
 pub fn row_of(i: Instruction) -> Row
     ensures { result ≡ row_of i }
 {
@@ -263,61 +162,23 @@ pub fn row_of(i: Instruction) -> Row
         Instruction::Nop => bare(0, 0, 0, 0),
         Instruction::Stc(d) => bare(1, 0, 0, d),
         Instruction::LdcReg(s) => bare(2, 0, 0, s),
-        Instruction::Ccr(change, v) => made(3, choices::change_number(change), 0, value_row(v), 0),
-        Instruction::Alu(op, w, source, d) => made(
-            4,
-            choices::op_number(op),
-            choices::width_number(w),
-            source_row(source),
-            d,
-        ),
-        Instruction::IncDec(way, w, by, d) => made(
-            5,
-            choices::way_number(way),
-            choices::width_number(w),
-            by_row(by),
-            d,
-        ),
-        Instruction::AddsSubs(way, by, d) => made(6, choices::way_number(way), 0, by_row(by), d),
-        Instruction::Decimal(way, d) => bare(7, choices::way_number(way), 0, d),
-        Instruction::Shift(turn, w, d) => bare(
-            8,
-            choices::turn_number(turn),
-            choices::width_number(w),
-            d,
-        ),
-        Instruction::Unary(single, w, d) => bare(
-            9,
-            choices::single_number(single),
-            choices::width_number(w),
-            d,
-        ),
-        Instruction::Move(dir, w, p, r) => made(
-            10,
-            choices::dir_number(dir),
-            choices::width_number(w),
-            place_row(p),
-            r,
-        ),
-        Instruction::Bcc(c, reach) => made(11, c as u32, 0, reach_row(reach), 0),
-        Instruction::Jmp(target) => made(12, 0, 0, target_row(target), 0),
-        Instruction::Bsr(reach) => made(13, 0, 0, reach_row(reach), 0),
-        Instruction::Jsr(target) => made(14, 0, 0, target_row(target), 0),
+        Instruction::Ccr(change, v) => made(3, change as u32, 0, v.into(), 0),
+        Instruction::Alu(op, w, source, d) => made(4, op as u32, w as u32, source.into(), d),
+        Instruction::IncDec(way, w, by, d) => made(5, way as u32, w as u32, by.into(), d),
+        Instruction::AddsSubs(way, by, d) => made(6, way as u32, 0, by.into(), d),
+        Instruction::Decimal(way, d) => bare(7, way as u32, 0, d),
+        Instruction::Shift(turn, w, d) => bare(8, turn as u32, w as u32, d),
+        Instruction::Unary(single, w, d) => bare(9, single as u32, w as u32, d),
+        Instruction::Move(dir, w, p, r) => made(10, dir as u32, w as u32, p.into(), r),
+        Instruction::Bcc(c, reach) => made(11, c as u32, 0, reach.into(), 0),
+        Instruction::Jmp(target) => made(12, 0, 0, target.into(), 0),
+        Instruction::Bsr(reach) => made(13, 0, 0, reach.into(), 0),
+        Instruction::Jsr(target) => made(14, 0, 0, target.into(), 0),
         Instruction::Rts => bare(15, 0, 0, 0),
         Instruction::Multiply(sign, h, s, d) => product_row(16, sign, h, s, d),
         Instruction::Divide(sign, h, s, d) => product_row(17, sign, h, s, d),
-        Instruction::Takes(take, index, spot) => bit_row(
-            18,
-            choices::take_number(take),
-            index,
-            spot,
-        ),
-        Instruction::Gives(give, index, spot) => bit_row(
-            19,
-            choices::give_number(give),
-            index,
-            spot,
-        ),
+        Instruction::Takes(take, index, spot) => bit_row(18, take as u32, index, spot),
+        Instruction::Gives(give, index, spot) => bit_row(19, give as u32, index, spot),
     }
 }
 
@@ -333,148 +194,163 @@ fn low16(x: u32) -> u16
     (x % 65536) as u16
 }
 
-fn source_at(form: u32, other: u32, value: u32) -> Source
-    ensures { result ≡ source_at form other value }
+// `arith`, where the widths stand, knows no refusals.
+pub(crate) fn width_at(n: u32) -> Result<Width, Refusal>
+    ensures { result ≡ width_at n }
 {
-    match form {
-        0 => Source::Reg(low8(other)),
-        _ => Source::Imm(value),
+    match n {
+        0 => Ok(Width::Byte),
+        1 => Ok(Width::Word),
+        2 => Ok(Width::Long),
+        _ => Err(Refusal::NotInstruction),
     }
 }
 
-fn place_at(form: u32, other: u32, value: u32) -> Place
-    ensures { result ≡ place_at form other value }
+// By the width of a factor and a divisor.
+pub(crate) fn half_at(n: u32) -> Result<Half, Refusal>
+    ensures { result ≡ half_at n }
 {
-    match form {
-        0 => Place::At(low8(other)),
-        1 => Place::Step(low8(other)),
-        2 => Place::Disp(low8(other), low16(value)),
-        3 => Place::Abs8(low8(value)),
-        4 => Place::Abs16(low16(value)),
-        _ => Place::Abs24(value),
+    match n {
+        0 => Ok(Half::Eight),
+        1 => Ok(Half::Sixteen),
+        _ => Err(Refusal::NotInstruction),
     }
 }
 
-fn reach_at(form: u32, value: u32) -> Reach
-    ensures { result ≡ reach_at form value }
-{
-    match form {
-        0 => Reach::Near(low8(value)),
-        _ => Reach::Far(low16(value)),
+// What is too large for its place is cut off, and a number that a form does not use is not looked at: whoever reads compares.
+
+impl TryFrom<Operand> for Source {
+    type Error = Refusal;
+
+    ghost try_from_gives = { λ o r. r ≡ source_at o };
+
+    fn try_from(o: Operand) -> Result<Source, Refusal> {
+        match o.form {
+            0 => Ok(Source::Reg(low8(o.other))),
+            1 => Ok(Source::Imm(o.value)),
+            _ => Err(Refusal::NotInstruction),
+        }
     }
 }
 
-fn target_at(form: u32, other: u32, value: u32) -> Target
-    ensures { result ≡ target_at form other value }
-{
-    match form {
-        0 => Target::ByReg(low8(other)),
-        1 => Target::Direct(value),
-        _ => Target::Vector(low8(value)),
+impl TryFrom<Operand> for Place {
+    type Error = Refusal;
+
+    ghost try_from_gives = { λ o r. r ≡ place_at o };
+
+    fn try_from(o: Operand) -> Result<Place, Refusal> {
+        match o.form {
+            0 => Ok(Place::At(low8(o.other))),
+            1 => Ok(Place::Step(low8(o.other))),
+            2 => Ok(Place::Disp(low8(o.other), low16(o.value))),
+            3 => Ok(Place::Abs8(low8(o.value))),
+            4 => Ok(Place::Abs16(low16(o.value))),
+            5 => Ok(Place::Abs24(o.value)),
+            _ => Err(Refusal::NotInstruction),
+        }
     }
 }
 
-fn index_at(width: u32, other: u32) -> Index
+impl TryFrom<Operand> for Reach {
+    type Error = Refusal;
+
+    ghost try_from_gives = { λ o r. r ≡ reach_at o };
+
+    fn try_from(o: Operand) -> Result<Reach, Refusal> {
+        match o.form {
+            0 => Ok(Reach::Near(low8(o.value))),
+            1 => Ok(Reach::Far(low16(o.value))),
+            _ => Err(Refusal::NotInstruction),
+        }
+    }
+}
+
+impl TryFrom<Operand> for Target {
+    type Error = Refusal;
+
+    ghost try_from_gives = { λ o r. r ≡ target_at o };
+
+    fn try_from(o: Operand) -> Result<Target, Refusal> {
+        match o.form {
+            0 => Ok(Target::ByReg(low8(o.other))),
+            1 => Ok(Target::Direct(o.value)),
+            2 => Ok(Target::Vector(low8(o.value))),
+            _ => Err(Refusal::NotInstruction),
+        }
+    }
+}
+
+fn index_at(width: u32, other: u32) -> Result<Index, Refusal>
     ensures { result ≡ index_at width other }
 {
     match width {
-        0 => Index::Numbered(low8(other)),
-        _ => Index::ByPart(low8(other)),
+        0 => Ok(Index::Numbered(low8(other))),
+        1 => Ok(Index::ByPart(low8(other))),
+        _ => Err(Refusal::NotInstruction),
     }
 }
 
-fn spot_at(form: u32, value: u32, reg: u32) -> Spot
+fn spot_at(form: u32, value: u32, reg: u32) -> Result<Spot, Refusal>
     ensures { result ≡ spot_at form value reg }
 {
     match form {
-        0 => Spot::InPart(low8(reg)),
-        1 => Spot::AtEr(low8(reg)),
-        _ => Spot::AtAbs(low8(value)),
+        0 => Ok(Spot::InPart(low8(reg))),
+        1 => Ok(Spot::AtEr(low8(reg))),
+        2 => Ok(Spot::AtAbs(low8(value))),
+        _ => Err(Refusal::NotInstruction),
     }
 }
 
 // The only instruction that can have this row.
-fn read_row(f: Row) -> Instruction
+#[tactic(auto, unfolding(crate::specs::MirrorRows::read_row))]
+fn read_row(f: Row) -> Result<Instruction, Refusal>
     ensures { result ≡ read_row f }
 {
-    let kind = f.kind;
-    let w = choices::width_at(f.width);
-    let way = choices::way_at(f.which);
+    let o = f.operand;
     let d = low8(f.reg);
-    match kind {
-        0 => Instruction::Nop,
-        1 => Instruction::Stc(d),
-        2 => Instruction::LdcReg(d),
-        3 => Instruction::Ccr(choices::change_at(f.which), low8(f.value)),
-        4 => Instruction::Alu(
-            choices::op_at(f.which),
-            w,
-            source_at(f.form, f.other, f.value),
+    match f.kind {
+        0 => Ok(Instruction::Nop),
+        1 => Ok(Instruction::Stc(d)),
+        2 => Ok(Instruction::LdcReg(d)),
+        3 => Ok(Instruction::Ccr(f.which.try_into()?, low8(o.value))),
+        4 => Ok(Instruction::Alu(f.which.try_into()?, width_at(f.width)?, o.try_into()?, d)),
+        5 => Ok(Instruction::IncDec(
+            f.which.try_into()?,
+            width_at(f.width)?,
+            o.form.try_into()?,
             d,
-        ),
-        5 => Instruction::IncDec(way, w, choices::by_at(f.form), d),
-        6 => Instruction::AddsSubs(way, choices::by_at(f.form), d),
-        7 => Instruction::Decimal(way, d),
-        8 => Instruction::Shift(choices::turn_at(f.which), w, d),
-        9 => Instruction::Unary(choices::single_at(f.which), w, d),
-        10 => Instruction::Move(
-            choices::dir_at(f.which),
-            w,
-            place_at(f.form, f.other, f.value),
-            d,
-        ),
-        11 => Instruction::Bcc(low8(f.which), reach_at(f.form, f.value)),
-        12 => Instruction::Jmp(target_at(f.form, f.other, f.value)),
-        13 => Instruction::Bsr(reach_at(f.form, f.value)),
-        14 => Instruction::Jsr(target_at(f.form, f.other, f.value)),
-        15 => Instruction::Rts,
-        16 => Instruction::Multiply(
-            choices::sign_at(f.which),
-            choices::half_at(f.width),
-            low8(f.other),
-            d,
-        ),
-        17 => Instruction::Divide(
-            choices::sign_at(f.which),
-            choices::half_at(f.width),
-            low8(f.other),
-            d,
-        ),
-        18 => Instruction::Takes(
-            choices::take_at(f.which),
-            index_at(f.width, f.other),
-            spot_at(f.form, f.value, f.reg),
-        ),
-        _ => Instruction::Gives(
-            choices::give_at(f.which),
-            index_at(f.width, f.other),
-            spot_at(f.form, f.value, f.reg),
-        ),
+        )),
+        6 => Ok(Instruction::AddsSubs(f.which.try_into()?, o.form.try_into()?, d)),
+        7 => Ok(Instruction::Decimal(f.which.try_into()?, d)),
+        8 => Ok(Instruction::Shift(f.which.try_into()?, width_at(f.width)?, d)),
+        9 => Ok(Instruction::Unary(f.which.try_into()?, width_at(f.width)?, d)),
+        10 => Ok(Instruction::Move(f.which.try_into()?, width_at(f.width)?, o.try_into()?, d)),
+        11 => Ok(Instruction::Bcc(low8(f.which), o.try_into()?)),
+        12 => Ok(Instruction::Jmp(o.try_into()?)),
+        13 => Ok(Instruction::Bsr(o.try_into()?)),
+        14 => Ok(Instruction::Jsr(o.try_into()?)),
+        15 => Ok(Instruction::Rts),
+        16 => Ok(Instruction::Multiply(f.which.try_into()?, half_at(f.width)?, low8(o.other), d)),
+        17 => Ok(Instruction::Divide(f.which.try_into()?, half_at(f.width)?, low8(o.other), d)),
+        18 => Ok(Instruction::Takes(
+            f.which.try_into()?,
+            index_at(f.width, o.other)?,
+            spot_at(o.form, o.value, f.reg)?,
+        )),
+        19 => Ok(Instruction::Gives(
+            f.which.try_into()?,
+            index_at(f.width, o.other)?,
+            spot_at(o.form, o.value, f.reg)?,
+        )),
+        _ => Err(Refusal::NotInstruction),
     }
 }
 
-fn same(f: Row, g: Row) -> bool
-    ensures { result ≡ same_of f g }
-{
-    (f.kind == g.kind)
-        & (f.which == g.which)
-        & (f.width == g.width)
-        & (f.form == g.form)
-        & (f.other == g.other)
-        & (f.value == g.value)
-        & (f.reg == g.reg)
-}
-
-fn if_same(t: bool, i: Instruction) -> Named
-    ensures { result ≡ cond t (Names i) NamesNone }
-{
-    if t { Named::Names(i) } else { Named::NamesNone }
-}
-
 // The instruction whose row this is: read, and compared with its own row.
-pub fn name_of(f: Row) -> Named
+#[tactic(auto, unfolding(crate::specs::MirrorRows::named_of))]
+pub fn name_of(f: Row) -> Option<Instruction>
     ensures { result ≡ named_of f }
 {
-    let i = read_row(f);
-    if_same(same(f, row_of(i)), i)
+    let i = read_row(f).ok()?;
+    (f == row_of(i)).then_some(i)
 }

@@ -1,5 +1,5 @@
--- The left-out codes as the code holds them, an array of rows of bytes. Nothing here is to be believed: the proof of `group` says that these are `left_out`.
-use Rattle.std.specs.Prelude.{ℕ, zero, suc, ◌+◌, ◌*◌, ◌/◌, ◌%◌, List, [], ◌∷◌, get_or}
+-- The left-out codes as the code holds them, an array of rows. Nothing here is to be believed: the proof of `group` says that these are `left_out`.
+use Rattle.std.specs.Prelude.{ℕ, zero, suc, ◌+◌, ◌*◌, ◌/◌, ◌%◌, List, [], ◌∷◌}
 use Rattle.left.specs.Left.{Pattern, digits, Row, row}
 
 -- the uppermost bytes of two numbers of 64 bits: the least and the most of its digits
@@ -11,9 +11,13 @@ unfoldable pub patterns_in : ℕ → ℕ → ℕ → List Pattern
 patterns_in zero a b = []
 patterns_in (suc n) a b = between a b ∷ patterns_in n (a % 72057594037927936 * 256) (b % 72057594037927936 * 256 + 255)
 
-abbrev pub code_in : List ℕ → List Pattern
-code_in r = patterns_in (get_or r 1 0 % 256) (get_or r 2 0) (get_or r 3 0)
+-- a row of the table: the group, the number of bytes, the least and the most
+abbrev pub Entry : Type 0
+Entry = ℕ × ℕ × ℕ × ℕ
 
-unfoldable pub rows_in : List (List ℕ) → List Row
+abbrev pub entry_row : Entry → Row
+entry_row (group, count, least, most) = row group (patterns_in count least most)
+
+unfoldable pub rows_in : List Entry → List Row
 rows_in [] = []
-rows_in (r ∷ t) = row (get_or r 0 0 % 256) (code_in r) ∷ rows_in t
+rows_in (r ∷ t) = entry_row r ∷ rows_in t

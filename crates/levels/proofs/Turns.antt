@@ -1,5 +1,6 @@
 -- A level of the table, row by row.
 -- Assumes nothing.
+use Rattle.std.specs.Prelude.{Result}
 use mathlib.Core.Path.{◌≡◌, refl, subst, ◌∙◌}
 use mathlib.Core.Logic.{⊎_elim}
 use mathlib.Core.List.{List}
@@ -8,6 +9,7 @@ use native.Mathlib.Omega.{arith}
 use native.Mathlib.Decide.{ℕ_discrete}
 use lib.ListN.{length, get_or, set, length-set}
 use lib.Seq.{get_or-set_same, get_or-set_other}
+use Rattle.refusal.specs.declared.Refusal.{Refusal}
 use Rattle.paths.specs.declared.Flow.{Flow}
 use Rattle.paths.specs.Paths.{IsPlace}
 use Rattle.paths.specs.Levels.{HeldIs, LevelFrom}
@@ -27,7 +29,7 @@ kept_upper t at x i h room = go (ℕ_discrete i at)
     go (yes e) = rw (e, get_or-set_same t at (get_or t at 0 / 4294967296 * 4294967296 + x) 0 room) (omega arith)
     go (no e) = rw (get_or-set_other t at i (get_or t at 0 / 4294967296 * 4294967296 + x) 0 e)
 
-module _ (flow : ℕ → Flow) (len : ℕ) where
+module _ (flow : ℕ → Result Flow Refusal) (len : ℕ) where
   -- with no level left there is nothing more to know
   pub none_left : {d : ℕ} {before after : List ℕ} → d ≡ 0 → Costed flow len 0 before after → Costed flow len d before after
   none_left h c = record { same_length = c.same_length; noted = c.noted; below = λ e i. absurd (omega arith); rest = c.rest }

@@ -1,8 +1,9 @@
 -- What `h8 way` says at a call: the routine that it enters, with its states and the total; or how deep a place lies.
-use Rattle.std.specs.Prelude.{ℕ, ◌+◌, ◌*◌, ◌%◌, ◌^◌, Bool, cond, List, [], ◌++◌, length, replicate, ◌==◌}
+use Rattle.std.specs.Prelude.{ℕ, ◌+◌, ◌*◌, ◌%◌, ◌^◌, Bool, cond, List, [], ◌++◌, length, replicate, Option, Some, None, Result, Ok, Err}
 use Prim.Native.Char.{code}
+use Rattle.refusal.specs.declared.Refusal.{Refusal}
 use Rattle.paths.specs.declared.Flow.{Flow}
-use Rattle.paths.specs.declared.Flow.TheVariants.{Next, Jump, Either, Call, Ends, Stop}
+use Rattle.paths.specs.declared.Flow.TheVariants.{Next, Jump, Either, Call, Ends}
 use Rattle.paths.specs.MirrorRows.{row_of}
 use Rattle.site.specs.declared.Site.{Site}
 use Rattle.listing.specs.Listing.{flow_at}
@@ -11,18 +12,19 @@ use Rattle.text.specs.Numbers.{place_of, decimal_of}
 use Rattle.wording.specs.Parts.{number_line, place_line, pad_to}
 use Rattle.lines.specs.Places.{last_number}
 
--- the routine that a call enters; 16777215, which is no place, where no call stands
-abbrev pub entered_by : Flow → ℕ
-entered_by (Next n s) = 16777215
-entered_by (Jump t s) = 16777215
-entered_by (Either n t s) = 16777215
-entered_by (Call n t s) = t
-entered_by (Ends s) = 16777215
-entered_by (Stop f) = 16777215
+-- the routine that a call enters
+abbrev pub entered_by : Result Flow Refusal → Option ℕ
+entered_by (Ok (Next n s)) = None
+entered_by (Ok (Jump t s)) = None
+entered_by (Ok (Either n t s)) = None
+entered_by (Ok (Call n t s)) = Some t
+entered_by (Ok (Ends s)) = None
+entered_by (Err f) = None
 
--- what the routine at t takes: its figure, by a table
-unfoldable pub inside_of : List ℕ → List ℕ → ℕ → ℕ
-inside_of rom table t = cond (t == 16777215) 0 (row_of (length rom) table t).figure
+-- what the routine takes that is called: its figure, by a table
+abbrev pub inside_of : List ℕ → List ℕ → Option ℕ → ℕ
+inside_of rom table (Some t) = (row_of (length rom) table t).figure
+inside_of rom table None = 0
 
 -- the total of a way with the routine that is called at p
 unfoldable pub with_call : Site → List ℕ → List ℕ → ℕ → ℕ → ℕ
@@ -40,8 +42,9 @@ inside_text t n plain = cond plain (inside_named t n) (inside_columns t n)
 abbrev pub line_text : ℕ → ℕ → ℕ → Bool → List ℕ
 line_text t n total plain = inside_text t n plain ++ last_number (ascii "total") total plain
 
-unfoldable pub entered_text : List ℕ → List ℕ → ℕ → ℕ → Bool → List ℕ
-entered_text rom table t total plain = cond (t == 16777215) [] (line_text t (inside_of rom table t) total plain)
+abbrev pub entered_text : List ℕ → List ℕ → Option ℕ → ℕ → Bool → List ℕ
+entered_text rom table (Some t) total plain = line_text t (inside_of rom table (Some t)) total plain
+entered_text rom table None total plain = []
 
 -- the routine that is called at the place p of a way, with the total up to its end; nothing where no call stands
 abbrev pub call_text : Site → List ℕ → List ℕ → ℕ → ℕ → Bool → List ℕ

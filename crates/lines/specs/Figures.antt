@@ -1,11 +1,8 @@
 -- What `h8 figure` says: the longest way in states, and whether it fits a gap.
-use Rattle.std.specs.Prelude.{ℕ, ◌-◌, Bool, cond, List, [], ◌++◌, nat_le}
-use Rattle.figure.specs.declared.Verdict.{Verdict}
-use Rattle.figure.specs.declared.Verdict.TheVariants.{Longest, Forbids}
+use Rattle.std.specs.Prelude.{ℕ, ◌-◌, Bool, cond, List, [], ◌++◌, nat_le, Result, Ok, Err, Option, Some, None}
+use Rattle.refusal.specs.declared.Refusal.{Refusal}
 use Rattle.text.specs.Lines.{ascii}
 use Rattle.text.specs.Numbers.{place_of, decimal_of}
-use Rattle.lines.specs.declared.figures.Gap.{Gap}
-use Rattle.lines.specs.declared.figures.Gap.TheVariants.{States, NoGap}
 use Rattle.wording.specs.Parts.{number_line, refused_text}
 
 abbrev pub longest_words : ℕ → ℕ → List ℕ
@@ -34,13 +31,13 @@ gap_plain n gap = number_line (ascii "gap") gap ++ fits_plain n gap
 unfoldable pub against_text : ℕ → ℕ → Bool → List ℕ
 against_text n gap plain = cond plain (gap_plain n gap) (gap_words n gap)
 
-abbrev pub gap_text : ℕ → Gap → Bool → List ℕ
-gap_text n (States gap) plain = against_text n gap plain
-gap_text n NoGap plain = []
+abbrev pub gap_text : ℕ → Option ℕ → Bool → List ℕ
+gap_text n (Some gap) plain = against_text n gap plain
+gap_text n None plain = []
 
-abbrev pub measured_text : ℕ → ℕ → Gap → Bool → List ℕ
+abbrev pub measured_text : ℕ → ℕ → Option ℕ → Bool → List ℕ
 measured_text entry n gap plain = longest_text entry n plain ++ gap_text n gap plain
 
-abbrev pub figure_text : List ℕ → Verdict → ℕ → Gap → Bool → List ℕ
-figure_text rom (Longest n) entry gap plain = measured_text entry n gap plain
-figure_text rom (Forbids f) entry gap plain = refused_text rom f plain
+abbrev pub figure_text : List ℕ → Result ℕ Refusal → ℕ → Option ℕ → Bool → List ℕ
+figure_text rom (Ok n) entry gap plain = measured_text entry n gap plain
+figure_text rom (Err f) entry gap plain = refused_text rom f plain

@@ -1,7 +1,7 @@
 -- What `h8 list` and `h8 way` say of a place: its address, bytes, text and states, and last the total or the figure.
-use Rattle.std.specs.Prelude.{ℕ, ◌+◌, ◌%◌, ◌^◌, Bool, cond, List, [], ◌++◌, length, ◌==◌}
-use Rattle.codes.specs.declared.Decoded.{Decoded}
-use Rattle.codes.specs.declared.Decoded.TheVariants.{Code, NoCode}
+use Rattle.std.specs.Prelude.{ℕ, ◌+◌, ◌%◌, ◌^◌, Bool, cond, List, [], ◌++◌, length, ◌==◌, Result, Ok, Err}
+use Rattle.refusal.specs.declared.Refusal.{Refusal}
+use Rattle.codes.specs.declared.Instruction.{Instruction}
 use Rattle.paths.specs.declared.Reckoned.{Reckoned}
 use Rattle.paths.specs.MirrorRows.{row_of}
 use Rattle.site.specs.declared.Site.{Site}
@@ -13,35 +13,35 @@ use Rattle.wording.specs.Standing.{bytes_at, found_text}
 use Rattle.wording.specs.Parts.{number_line, place_line, pad_to}
 
 -- how many bytes stand at a place: a code has at most eight; an unknown word and one cut short are shown with two
-abbrev pub length_of : Decoded → ℕ
-length_of (Code i n) = n % 256
-length_of (NoCode f) = 2
+abbrev pub length_of : Result (Instruction × ℕ) Refusal → ℕ
+length_of (Ok (i, n)) = n % 256
+length_of (Err f) = 2
 
 -- what the figure counts for it on boards that have the site k
-abbrev pub count_of : Site → Decoded → ℕ
-count_of k (Code i n) = most_of k i
-count_of k (NoCode f) = 0
+abbrev pub count_of : Site → Result (Instruction × ℕ) Refusal → ℕ
+count_of k (Ok (i, n)) = most_of k i
+count_of k (Err f) = 0
 
-abbrev pub states_words : Site → Decoded → List ℕ
-states_words k (Code i n) = decimal_of (most_of k i)
-states_words k (NoCode f) = ascii "-"
+abbrev pub states_words : Site → Result (Instruction × ℕ) Refusal → List ℕ
+states_words k (Ok (i, n)) = decimal_of (most_of k i)
+states_words k (Err f) = ascii "-"
 
-abbrev pub states_plain : Site → Decoded → List ℕ
-states_plain k (Code i n) = number_line (ascii "states") (most_of k i)
-states_plain k (NoCode f) = []
+abbrev pub states_plain : Site → Result (Instruction × ℕ) Refusal → List ℕ
+states_plain k (Ok (i, n)) = number_line (ascii "states") (most_of k i)
+states_plain k (Err f) = []
 
-abbrev pub columns_text : Site → List ℕ → ℕ → Decoded → List ℕ
+abbrev pub columns_text : Site → List ℕ → ℕ → Result (Instruction × ℕ) Refusal → List ℕ
 columns_text k rom p d =
     pad_to 66
     (pad_to 58 (pad_to 28 (pad_to 10 (place_of p) ++ bytes_at rom p (length_of d)) ++ found_text p d) ++ states_words k d)
 
-abbrev pub named_text : Site → List ℕ → ℕ → Decoded → List ℕ
+abbrev pub named_text : Site → List ℕ → ℕ → Result (Instruction × ℕ) Refusal → List ℕ
 named_text k rom p d =
     place_line (ascii "place") p
     ++ (ascii "bytes " ++ (bytes_at rom p (length_of d) ++ (ascii "\ntext " ++ (found_text p d ++ (ascii "\n" ++ states_plain k d)))))
 
 -- all but what stands last
-unfoldable pub standing_text : Site → List ℕ → ℕ → Decoded → Bool → List ℕ
+unfoldable pub standing_text : Site → List ℕ → ℕ → Result (Instruction × ℕ) Refusal → Bool → List ℕ
 standing_text k rom p d plain = cond plain (named_text k rom p d) (columns_text k rom p d)
 
 unfoldable pub last_number : List ℕ → ℕ → Bool → List ℕ

@@ -1,5 +1,6 @@
 -- A forbidden place's refusal names that place, and has the number 2, 3, 4, 9, 10, 15 or 16.
 -- Assumes nothing.
+use Rattle.std.specs.Prelude.{Result, Ok, Err}
 use mathlib.Core.Path.{◌≡◌, refl, subst}
 use mathlib.Core.Logic.{◌⊎◌, inl, inr, ⊎_elim}
 use mathlib.Core.List.{List}
@@ -8,6 +9,7 @@ use Prim.Native.Nat.{ℕ, ◌<◌}
 use lib.Dec.{eqb}
 use lib.ListN.{length, drop}
 use borrow.Author.Tests.{le-leb, lt-leb}
+use Rattle.codes.specs.declared.Instruction.{Instruction}
 use Rattle.refusal.specs.declared.Refusal.{Refusal}
 use Rattle.refusal.specs.declared.Refusal.TheVariants.{FetchOutside, CutShort, NotFollowed, NotUpward, TooDeep}
 use Rattle.refusal.specs.Refusals.{number_of, place_of}
@@ -18,15 +20,13 @@ use Rattle.codes.specs.declared.Goes.{Goes}
 use Rattle.codes.specs.declared.Goes.TheVariants.{Onward, Branches, Jumps, CallsNear, Calls, Returns}
 use Rattle.codes.specs.declared.Target.{Target}
 use Rattle.codes.specs.declared.Target.TheVariants.{ByReg, Direct, Vector}
-use Rattle.codes.specs.declared.Decoded.{Decoded}
-use Rattle.codes.specs.declared.Decoded.TheVariants.{Code, NoCode}
 use Rattle.codes.specs.States.{goes_of}
 use Rattle.decoder.proofs.Laws.{refused_at}
 use Rattle.site.specs.declared.Site.{Site}
 use Rattle.timing.specs.Made.{most_of}
 use Rattle.flow.specs.Targets.{next_of, target_of}
 use Rattle.paths.specs.declared.Flow.{Flow}
-use Rattle.paths.specs.declared.Flow.TheVariants.{Next, Jump, Either, Call, Ends, Stop}
+use Rattle.paths.specs.declared.Flow.TheVariants.{Next, Jump, Either, Call, Ends}
 use Rattle.paths.specs.Paths.{Forbidden, stop, back, deep}
 use Rattle.paths.proofs.Laws.{le_or}
 use Rattle.listing.specs.Listing.{branch_flow, jump_flow, call_flow, goes_flow, found_flow, decoded_at, flow_at}
@@ -54,15 +54,15 @@ too_deep : (p : ℕ) → Named p (TooDeep p)
 too_deep p = record { place = refl; number = inr (inr (inr (inr (inr (inr refl))))) }
 
 -- what an instruction's flow stops by
-abbrev Says : ℕ → Flow → Type 0
-Says p (Next n s) = Unit {0}
-Says p (Jump t s) = Unit {0}
-Says p (Either n t s) = Unit {0}
-Says p (Call n t s) = Unit {0}
-Says p (Ends s) = Unit {0}
-Says p (Stop r) = Named p r
+abbrev Says : ℕ → Result Flow Refusal → Type 0
+Says p (Ok (Next n s)) = Unit {0}
+Says p (Ok (Jump t s)) = Unit {0}
+Says p (Ok (Either n t s)) = Unit {0}
+Says p (Ok (Call n t s)) = Unit {0}
+Says p (Ok (Ends s)) = Unit {0}
+Says p (Err r) = Named p r
 
-says_branch : (x y : Bool) (p n t s : ℕ) → Says p (cond x (Jump t s) (cond y (Next n s) (Either n t s)))
+says_branch : (x y : Bool) (p n t s : ℕ) → Says p (Ok (cond x (Jump t s) (cond y (Next n s) (Either n t s))))
 says_branch true y p n t s = tt
 says_branch false true p n t s = tt
 says_branch false false p n t s = tt
@@ -88,12 +88,12 @@ says_goes p n s (CallsNear reach) = tt
 says_goes p n s (Calls target) = says_call p n target s
 says_goes p n s Returns = tt
 
-says_found : (k : Site) (p g : ℕ) → p < 16777216 → (d : Decoded) → ((r : Refusal) → d ≡ NoCode r → (r ≡ CutShort p) ⊎ (r ≡ unheld_of p g)) → Says p (found_flow k p d)
+says_found : (k : Site) (p g : ℕ) → p < 16777216 → (d : Result (Instruction × ℕ) Refusal) → ((r : Refusal) → d ≡ Err r → (r ≡ CutShort p) ⊎ (r ≡ unheld_of p g)) → Says p (found_flow k p d)
 unfolding found_flow
-says_found k p g l (Code i n) h = says_goes p (next_of p n) (most_of k i) (goes_of i)
-says_found k p g l (NoCode r) h = ⊎_elim (λ e. rw e (short p)) (λ e. rw e (unheld p g l)) (h r refl)
+says_found k p g l (Ok (i, n)) h = says_goes p (next_of p n) (most_of k i) (goes_of i)
+says_found k p g l (Err r) h = ⊎_elim (λ e. rw e (short p)) (λ e. rw e (unheld p g l)) (h r refl)
 
-refused_decoded : (rom : List ℕ) (p : ℕ) (r : Refusal) → decoded_at rom p ≡ NoCode r → (r ≡ CutShort p) ⊎ (r ≡ unheld_of p (group_in left_out (drop p rom)))
+refused_decoded : (rom : List ℕ) (p : ℕ) (r : Refusal) → decoded_at rom p ≡ Err r → (r ≡ CutShort p) ⊎ (r ≡ unheld_of p (group_in left_out (drop p rom)))
 unfolding decoded_at
 refused_decoded rom p r e = refused_at p (drop p rom) r e
 
@@ -102,6 +102,6 @@ unfolding flow_at
 says_at k rom p l = ⊎_elim (λ h. rw (le-leb (length rom) p h) (outside p)) (λ h. rw (lt-leb (length rom) p h) (says_found k p _ l (decoded_at rom p) (refused_decoded rom p))) (le_or (length rom) p)
 
 pub forbidden_named : (k : Site) (rom : List ℕ) {d p : ℕ} {r : Refusal} → p < 16777216 → Forbidden (flow_at k rom) d p r → Named p r
-forbidden_named k rom {p = p} l (stop e) = subst (λ (f : Flow). Says p f) e (says_at k rom p l)
+forbidden_named k rom {p = p} l (stop e) = subst (λ (f : Result Flow Refusal). Says p f) e (says_at k rom p l)
 forbidden_named k rom {p = p} l (back w h) = not_upward p
 forbidden_named k rom {p = p} l (deep t e) = too_deep p

@@ -1,43 +1,55 @@
 // Where paths go from each place of read-only memory: document 01, "The routine's figure".
 #![tactic(auto)]
 
-ghost use Rattle.std.specs.Prelude.{◌≡◌, ◌+◌, ◌*◌, ◌<◌};
-ghost use Rattle.codes.specs.declared.Decoded.TheVariants.{Code};
-ghost use Rattle.codes.specs.declared.Instruction.TheVariants.{Bsr, Jsr, Rts};
-ghost use Rattle.paths.specs.declared.Flow.TheVariants.{Next, Call, Ends};
-ghost use Rattle.flow.specs.Targets.{target_of};
-ghost use Rattle.timing.specs.Made.{most_of};
+ghost use Rattle.std.specs.Prelude.{◌≡◌, ◌<◌, Ok};
+ghost use Rattle.arith.specs.declared.Width.TheVariants.{Long};
+ghost use Rattle.codes.specs.declared.Instruction.TheVariants.{Rts};
+ghost use Rattle.paths.specs.declared.Flow.TheVariants.{Next, Ends};
+ghost use Rattle.timing.specs.Made.{dearest, most_of};
 ghost use Rattle.decoder.specs.MirrorWords.{row0, row1, row6, plan_of};
-ghost use Rattle.listing.specs.MirrorGlance.{Told};
+ghost use Rattle.listing.specs.MirrorGlance.{Told, followed_to, reach_states};
 ghost use Rattle.listing.specs.Listing.{branch_flow, jump_flow, call_flow, found_flow, flow_at};
 
 use arith::Width;
 use codes::{Instruction, Reach, Target};
-use decoder::whole::Found;
+use decoder::whole::Fault;
 use paths::Flow;
 use refusal::Refusal;
 use site::Site;
 
+#[tactic(auto, unfolding(crate::specs::Listing::branch_flow))]
 fn branch(c: u8, next: u32, to: u32, s: u64) -> Flow
     ensures { result ≡ branch_flow c next to s }
 {
-    if c == 0 {
-        return Flow::Jump(to, s);
+    match c {
+        0 => Flow::Jump(to, s),
+        1 => Flow::Next(next, s),
+        _ => Flow::Either(next, to, s),
     }
-    if c == 1 {
-        return Flow::Next(next, s);
-    }
-    Flow::Either(next, to, s)
 }
 
-fn jump(p: u32, to: Target, s: u64) -> Flow
-    ensures { result ≡ jump_flow p to s }
+// Where a jump or a call is followed to; by a register or a vector it is not.
+fn followed(p: u32, to: Target) -> Result<u32, Refusal>
+    ensures { result ≡ followed_to p to }
 {
     match to {
-        Target::ByReg(_) => Flow::Stop(Refusal::NotFollowed(p)),
-        Target::Direct(a) => Flow::Jump(registers::pc(a), s),
-        Target::Vector(_) => Flow::Stop(Refusal::NotFollowed(p)),
+        Target::Direct(a) => Ok(registers::pc(a)),
+        Target::ByReg(_) | Target::Vector(_) => Err(Refusal::NotFollowed(p)),
     }
+}
+
+#[tactic(auto, unfolding(crate::specs::Listing::jump_flow))]
+fn jump(p: u32, to: Target, s: u64) -> Result<Flow, Refusal>
+    ensures { result ≡ jump_flow p to s }
+{
+    Ok(Flow::Jump(followed(p, to)?, s))
+}
+
+#[tactic(auto, unfolding(crate::specs::Listing::call_flow))]
+fn call(p: u32, next: u32, to: Target, s: u64) -> Result<Flow, Refusal>
+    ensures { result ≡ call_flow p next to s }
+{
+    Ok(Flow::Call(next, followed(p, to)?, s))
 }
 
 fn onward(next: u32, s: u32) -> Flow
@@ -49,166 +61,140 @@ fn onward(next: u32, s: u32) -> Flow
 fn returns(k: Site) -> Flow
     ensures { result ≡ Ends (most_of k Rts) }
 {
-    let s = timing::parts::rts(k);
-    Flow::Ends(s as u64)
+    Flow::Ends(timing::parts::rts(k) as u64)
+}
+
+// The states of a branch, and of a call but for what it pushes.
+fn near_or_far(reach: Reach) -> u64
+    ensures { result ≡ reach_states reach }
+{
+    match reach {
+        Reach::Near(_) => 4,
+        Reach::Far(_) => 6,
+    }
 }
 
 // BSR and JSR push where ER7 points.
-fn near_call(k: Site, next: u32, reach: Reach) -> Flow
-    ensures { result ≡ Call next (target_of next reach) (most_of k (Bsr reach)) }
+fn pushed(k: Site) -> u64
+    ensures cost { result ≡ dearest k Long }
+    ensures small { result < 256 }
 {
-    let pushed = timing::dearest(k, Width::Long);
-    match reach {
-        Reach::Near(d) => Flow::Call(
-            next,
-            flow::target(next, Reach::Near(d)),
-            (4 + pushed) as u64,
-        ),
-        Reach::Far(d) => Flow::Call(next, flow::target(next, Reach::Far(d)), (6 + pushed) as u64),
-    }
-}
-
-fn call(k: Site, p: u32, next: u32, to: Target) -> Flow
-    ensures { result ≡ call_flow p next to (most_of k (Jsr to)) }
-{
-    let pushed = timing::dearest(k, Width::Long);
-    match to {
-        Target::ByReg(_) => Flow::Stop(Refusal::NotFollowed(p)),
-        Target::Direct(a) => Flow::Call(next, registers::pc(a), (6 + pushed) as u64),
-        Target::Vector(_) => Flow::Stop(Refusal::NotFollowed(p)),
-    }
+    timing::dearest(k, Width::Long) as u64
 }
 
 // An instruction of n bytes at p. Its parts are looked at here, where the decoder has left them: to hand them on whole is to copy them.
-fn found(k: Site, p: u32, i: Instruction, n: usize) -> Flow
-    ensures { result ≡ found_flow k p (Code i n) }
+fn found(k: Site, p: u32, i: Instruction, n: usize) -> Result<Flow, Refusal>
+    ensures { result ≡ found_flow k p (Ok (i, n)) }
 {
     let next = flow::next(p, n);
     match i {
-        Instruction::Alu(op, w, s, _) => onward(next, codes::alu_states(op, w, s)),
-        Instruction::Multiply(sign, h, _, _) => onward(next, codes::product_states(sign, h)),
-        Instruction::Divide(sign, h, _, _) => onward(next, codes::product_states(sign, h)),
-        Instruction::Takes(_, _, spot) => onward(next, timing::parts::read_bit(k, spot)),
-        Instruction::Gives(_, _, spot) => onward(next, timing::parts::written_bit(k, spot)),
-        Instruction::Move(_, w, place, _) => onward(next, timing::parts::moved(k, w, place)),
-        Instruction::Bcc(c, reach) => match reach {
-            Reach::Near(d) => branch(c, next, flow::target(next, Reach::Near(d)), 4),
-            Reach::Far(d) => branch(c, next, flow::target(next, Reach::Far(d)), 6),
-        },
+        Instruction::Alu(op, w, s, _) => Ok(onward(next, codes::alu_states(op, w, s))),
+        Instruction::Multiply(sign, h, _, _) | Instruction::Divide(sign, h, _, _) => Ok(onward(
+            next,
+            codes::product_states(sign, h),
+        )),
+        Instruction::Takes(_, _, spot) => Ok(onward(next, timing::parts::read_bit(k, spot))),
+        Instruction::Gives(_, _, spot) => Ok(onward(next, timing::parts::written_bit(k, spot))),
+        Instruction::Move(_, w, place, _) => Ok(onward(next, timing::parts::moved(k, w, place))),
+        Instruction::Bcc(c, reach) => Ok(branch(
+            c,
+            next,
+            flow::target(next, reach),
+            near_or_far(reach),
+        )),
         Instruction::Jmp(to) => jump(p, to, 6),
-        Instruction::Bsr(reach) => near_call(k, next, reach),
-        Instruction::Jsr(to) => call(k, p, next, to),
-        Instruction::Rts => returns(k),
-        _ => onward(next, 2),
+        Instruction::Bsr(reach) => Ok(Flow::Call(
+            next,
+            flow::target(next, reach),
+            near_or_far(reach) + pushed(k),
+        )),
+        Instruction::Jsr(to) => call(p, next, to, 6 + pushed(k)),
+        Instruction::Rts => Ok(returns(k)),
+        _ => Ok(onward(next, 2)),
     }
 }
 
 // What stands at the place p of the read-only memory `rom`, by what it takes at most on a board that has the site k.
-pub fn flow_at(k: Site, rom: &[u8], p: u32) -> Flow
+pub fn flow_at(k: Site, rom: &[u8], p: u32) -> Result<Flow, Refusal>
     ensures { result ≡ flow_at k rom.now p }
 {
     let at = p as usize;
     if rom.len() <= at {
-        return Flow::Stop(Refusal::FetchOutside(p));
+        return Err(Refusal::FetchOutside(p));
     }
     let s = &rom[at..];
     match decoder::whole::begins(s) {
-        Found::Is(i, n) => found(k, p, i, n),
-        Found::Cut => Flow::Stop(Refusal::CutShort(p)),
-        Found::Unlisted => Flow::Stop(left::unheld(s, p)),
+        Ok((i, n)) => found(k, p, i, n),
+        Err(Fault::Cut) => Err(Refusal::CutShort(p)),
+        Err(Fault::Unlisted) => Err(left::unheld(s, p)),
     }
 }
 
-// The states of a code of one word that goes on, by the lower digit of its first byte; 0 where the second byte counts too, as it does for an
+// The states of a code of one word that goes on, by the lower digit of its first byte; none where the second byte counts too, as it does for an
 // absolute address.
-fn told_by_0(k: Site, lo: u8) -> u32
+#[tactic(auto, unfolding(timing::specs::Made::most_of, timing::specs::Made::base_of))]
+fn told_by_0(k: Site, lo: u8) -> Option<u32>
     ensures { Told k result (row0 lo) }
 {
     match lo {
-        0x4 => 2,
-        0x5 => 2,
-        0x6 => 2,
-        0x7 => 2,
-        0x8 => 2,
-        0x9 => 2,
-        0xC => 2,
-        0xD => 2,
-        0xE => 2,
-        _ => 0,
+        0x4 | 0x5 | 0x6 | 0x7 | 0x8 | 0x9 | 0xC | 0xD | 0xE => Some(2),
+        _ => None,
     }
 }
 
-fn told_by_1(k: Site, lo: u8) -> u32
+#[tactic(auto, unfolding(timing::specs::Made::most_of, timing::specs::Made::base_of))]
+fn told_by_1(k: Site, lo: u8) -> Option<u32>
     ensures { Told k result (row1 lo) }
 {
     match lo {
-        0x4 => 2,
-        0x5 => 2,
-        0x6 => 2,
-        0x8 => 2,
-        0x9 => 2,
-        0xC => 2,
-        0xD => 2,
-        0xE => 2,
-        _ => 0,
+        0x4..=0x6 | 0x8..=0x9 | 0xC..=0xE => Some(2),
+        _ => None,
     }
 }
 
-fn told_by_6(k: Site, lo: u8) -> u32
+#[tactic(auto, using(crate::proofs::Words::accesses), unfolding(timing::specs::Made::most_of, timing::specs::Made::base_of, timing::specs::Made::most_at))]
+fn told_by_6(k: Site, lo: u8) -> Option<u32>
     ensures { Told k result (row6 lo) }
 {
     match lo {
-        0x4 => 2,
-        0x5 => 2,
-        0x6 => 2,
-        0x8 => 2 + timing::dearest(k, Width::Byte),
-        0x9 => 2 + timing::dearest(k, Width::Word),
-        0xC => 4 + timing::dearest(k, Width::Byte),
-        0xD => 4 + timing::dearest(k, Width::Word),
-        _ => 0,
+        0x4 | 0x5 | 0x6 => Some(2),
+        0x8 => Some(2 + timing::dearest(k, Width::Byte)),
+        0x9 => Some(2 + timing::dearest(k, Width::Word)),
+        0xC => Some(4 + timing::dearest(k, Width::Byte)),
+        0xD => Some(4 + timing::dearest(k, Width::Word)),
+        _ => None,
     }
 }
 
-fn told_by(k: Site, a: u8) -> u32
+#[tactic(auto, unfolding(timing::specs::Made::most_of, timing::specs::Made::base_of))]
+fn told_by(k: Site, a: u8) -> Option<u32>
     ensures { Told k result (plan_of a) }
 {
     match a / 16 {
         0x0 => told_by_0(k, a % 16),
         0x1 => told_by_1(k, a % 16),
-        0x2 => 0,
-        0x3 => 0,
-        0x4 => 0,
-        0x5 => 0,
         0x6 => told_by_6(k, a % 16),
-        0x7 => 0,
-        _ => 2,
+        0x8..=0xF => Some(2),
+        _ => None,
     }
 }
 
 // `flow_at`, for whoever looks at place after place: a short branch, and most codes of one word, need no decoding.
-pub fn glance(k: Site, rom: &[u8], p: u32) -> Flow
+pub fn glance(k: Site, rom: &[u8], p: u32) -> Result<Flow, Refusal>
     ensures { result ≡ flow_at k rom.now p }
 {
     let at = p as usize;
-    if rom.len() <= at {
-        return flow_at(k, rom, p);
-    }
-    if rom.len() - at < 2 {
+    if rom.len() < at + 2 {
         return flow_at(k, rom, p);
     }
     let a = rom[at];
     let next = flow::next(p, 2);
     if a / 16 == 4 {
-        return branch(
-            a % 16,
-            next,
-            flow::target(next, Reach::Near(rom[at + 1])),
-            4,
-        );
+        let to = flow::target(next, Reach::Near(rom[at + 1]));
+        return Ok(branch(a % 16, next, to, 4));
     }
-    let s = told_by(k, a);
-    if s == 0 {
-        return flow_at(k, rom, p);
+    match told_by(k, a) {
+        Some(s) => Ok(onward(next, s)),
+        None => flow_at(k, rom, p),
     }
-    onward(next, s)
 }

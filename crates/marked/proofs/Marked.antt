@@ -6,7 +6,7 @@ use Rattle.arith.specs.Sums.{add_of, sub_of}
 use Rattle.arith.specs.Decimal.{find_row, adjust_of}
 use Rattle.registers.specs.Parts.{part_of, insert_of, with_part}
 use Rattle.memory.specs.Board.{good_board}
-use Rattle.memory.specs.Access.{inside, read_part, read_of, written, write_word, write_of}
+use Rattle.memory.specs.Access.{inside, read_part, read_of, written, write_part, write_of}
 use Rattle.memory.specs.Told.{accesses_at}
 use Rattle.operate.specs.Operate.{source_of, operated_of, alu_of, carried_of, row_of, added_of, adjusted_of, decimal_of}
 use Rattle.site.specs.Costs.{cost_of}
@@ -21,7 +21,7 @@ use Rattle.figure.proofs.Examples.{example10, example10_2, example11, example12}
 use Rattle.marked.specs.Rows.{All, rows}
 
 pub marked : All rows
-unfolding xor signed_of fits_in moved_of add_of sub_of find_row adjust_of part_of insert_of with_part good_board inside read_part read_of written write_word write_of cost_of accesses_at made_at base_of states_at source_of operated_of alu_of carried_of row_of added_of adjusted_of decimal_of address_of step_over loaded_of load_of stored_of store_of target_of even_condition holds_of follow_of transfer_of effect_of finish_of carry_of obey_of act_of fetch_of step_of run_from run_of
+unfolding xor signed_of fits_in moved_of add_of sub_of find_row adjust_of part_of insert_of with_part good_board inside read_part read_of written write_part write_of cost_of accesses_at made_at base_of states_at source_of operated_of alu_of carried_of row_of added_of adjusted_of decimal_of address_of step_over loaded_of load_of stored_of store_of target_of even_condition holds_of follow_of transfer_of effect_of finish_of carry_of obey_of act_of fetch_of step_of run_from run_of
 marked = (
   refl,
   (

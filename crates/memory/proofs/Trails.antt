@@ -1,8 +1,10 @@
 -- What a trail tells: each read and write the accesses of its definition, the earlier first. Assumes nothing.
-use Prim.Native.Nat.{ℕ, ◌+◌, ◌*◌, ◌/◌, ◌%◌, ◌<◌}
+use Prim.Native.Nat.{ℕ, ◌+◌, ◌*◌, ◌/◌, ◌%◌, ◌<◌, ◌≤◌}
 use mathlib.Core.Path.{◌≡◌, refl}
 use mathlib.Core.Bool.{Bool, true, false}
 use mathlib.Core.List.{[], ◌++◌}
+use lib.ListN.{length}
+use Rattle.std.specs.Prelude.{cond, eqb}
 use native.Mathlib.Omega.{arith}
 use Rattle.arith.specs.declared.Width.{Width}
 use Rattle.arith.specs.declared.Width.TheVariants.{Byte, Word, Long}
@@ -76,3 +78,22 @@ module _ (t x : ℕ) (l : t < 134217728) (m : x < 134217728) where
   pub told_behind : trail_in (noted t x) ≡ call_in t ++ call_in x
   unfolding trail_in
   told_behind = rw (upper, lower)
+
+-- ---- a call makes two accesses at most
+
+few_by : (a b c d e f : Bool) (p : ℕ)
+    → length (cond a (accesses_at false Byte p) (cond b (accesses_at false Word p) (cond c (accesses_at false Long p)
+    (cond d (accesses_at true Byte p) (cond e (accesses_at true Word p) (cond f (accesses_at true Long p) [])))))) ≤ 2
+unfolding accesses_at
+few_by true b c d e f p = omega arith
+few_by false true c d e f p = omega arith
+few_by false false true d e f p = omega arith
+few_by false false false true e f p = omega arith
+few_by false false false false true f p = omega arith
+few_by false false false false false true p = omega arith
+few_by false false false false false false p = omega arith
+
+pub call_few : (t : ℕ) → length (call_in t) ≤ 2
+unfolding call_in
+call_few t =
+    few_by (eqb (t % 8) 1) (eqb (t % 8) 2) (eqb (t % 8) 3) (eqb (t % 8) 5) (eqb (t % 8) 6) (eqb (t % 8) 7) (t / 8)

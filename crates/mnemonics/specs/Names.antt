@@ -1,5 +1,5 @@
 -- What the maker's assembler calls instructions and registers: document 002, section 2.2, the assembler format of each page.
-use Rattle.std.specs.Prelude.{ℕ, ◌+◌, ◌*◌, ◌%◌, cond, List, [], ◌∷◌, ◌++◌, ltb, take, drop}
+use Rattle.std.specs.Prelude.{ℕ, ◌+◌, ◌%◌, cond, List, [], ◌∷◌, ◌++◌, ltb, get_or}
 use Prim.Native.Char.{code}
 use Rattle.mnemonics.specs.Parts.{Sign, Unsigned, Signed, Width, Byte, Word, Long, Op, Add, Sub, Cmp, Mov, Addx, Subx, Or, Xor, And, Way, Up, Down, By, One, Two, Four, Turn, Shll, Shlr, Rotxl, Rotxr, Shal, Shar, Rotl, Rotr, Single, Not, Neg, Extu, Exts, Change, Orc, Xorc, Andc, Ldc}
 use Rattle.mnemonics.specs.Parts.{Take, Btst, Bor, Bior, Bxor, Bixor, Band, Biand, Bld, Bild, Give, Bset, Bnot, Bclr, Bst, Bist}
@@ -126,8 +126,10 @@ by_of Two = ascii "#2,"
 by_of Four = ascii "#4,"
 
 -- by the digit of the condition, 0 to 15 (002:1376-1391)
-abbrev pub branch_names : List ℕ
-branch_names = ascii "BRABRNBHIBLSBCCBCSBNEBEQBVCBVSBPLBMIBGEBLTBGTBLE"
+abbrev pub branch_names : List (List ℕ)
+branch_names =
+    ascii "BRA" ∷ ascii "BRN" ∷ ascii "BHI" ∷ ascii "BLS" ∷ ascii "BCC" ∷ ascii "BCS" ∷ ascii "BNE" ∷ ascii "BEQ"
+    ∷ ascii "BVC" ∷ ascii "BVS" ∷ ascii "BPL" ∷ ascii "BMI" ∷ ascii "BGE" ∷ ascii "BLT" ∷ ascii "BGT" ∷ ascii "BLE" ∷ []
 
 unfoldable pub branch_name : ℕ → List ℕ
-branch_name c = take 3 (drop (c % 16 * 3) branch_names)
+branch_name c = get_or branch_names (c % 16) []

@@ -1,227 +1,168 @@
 // An instruction as the maker's assembler writes it.
-ghost use Rattle.std.specs.Prelude.{◌++◌};
-ghost use Rattle.text.specs.Lines.{Adds};
-ghost use Rattle.mnemonics.specs.Instructions.{stc_text, ldc_text, ccr_text, alu_text, count_text, adds_text, decimal_text, shift_text, unary_text, product_text, multiply_text, divide_text, bit_text, take_text, give_text, load_text, store_text, move_text, bcc_text, bsr_text, jmp_text, jsr_text, text_of};
+ghost use Rattle.std.specs.Prelude.{◌≡◌, ◌++◌};
+ghost use Rattle.flow.specs.Targets.{target_of};
+ghost use Rattle.text.specs.Lines.{added, ascii};
+ghost use Rattle.mnemonics.specs.Names.{mark_of, reg_of, byte_reg};
+ghost use Rattle.mnemonics.specs.Operands.{reach_of, target_text};
+ghost use Rattle.mnemonics.specs.Instructions.{ldc_text, ccr_text, alu_text, count_text, adds_text, product_text, bit_text, move_text, bcc_text, text_of};
 
 use crate::{names, operands};
 use arith::Width;
-use codes::{
-    By, Change, Dir, Give, Index, Instruction, Op, Place, Reach, Sign, Single, Source, Spot, Take,
-    Target, Turn, Way,
-};
+use codes::{By, Change, Dir, Index, Instruction, Op, Place, Reach, Source, Spot, Target, Way};
 use products::Half;
-use text::{Line, bytes, put};
+use text::Line;
 
-fn stc(l: Line, d: u8) -> Line
-    ensures { Adds l (stc_text d) result }
+// A name and a register by its byte.
+fn on_byte(l: &mut Line, name: &str, d: u8)
+    ensures { l.new ≡ added l.old (name.now ++ byte_reg d) }
 {
-    let a = bytes(l, b"STC.B CCR,");
-    names::byte_reg(a, d)
+    l.text(name);
+    names::byte_reg(l, d);
 }
 
-fn ldc(mut l: Line, d: u8) -> Line
-    ensures { Adds l (ldc_text d) result }
+fn ldc(l: &mut Line, d: u8)
+    ensures { l.new ≡ added l.old (ldc_text d) }
 {
-    l = bytes(l, b"LDC.B ");
-    l = names::byte_reg(l, d);
-    bytes(l, b",CCR")
+    on_byte(l, "LDC.B ", d);
+    l.text(",CCR");
 }
 
-fn ccr(mut l: Line, change: Change, x: u8) -> Line
-    ensures { Adds l (ccr_text change x) result }
+fn ccr(l: &mut Line, change: Change, x: u8)
+    ensures { l.new ≡ added l.old (ccr_text change x) }
 {
-    l = names::change_name(l, change);
-    l = operands::immediate(l, Width::Byte, x as u32);
-    bytes(l, b",CCR")
+    l.text(names::change_name(change));
+    operands::immediate(l, Width::Byte, u32::from(x));
+    l.text(",CCR");
 }
 
-fn alu(mut l: Line, op: Op, w: Width, s: Source, d: u8) -> Line
-    ensures { Adds l (alu_text op w s d) result }
+fn alu(l: &mut Line, op: Op, w: Width, s: Source, d: u8)
+    ensures { l.new ≡ added l.old (alu_text op w s d) }
 {
-    l = names::op_name(l, op);
-    l = names::op_mark(l, op, w);
-    l = put(l, b' ');
-    l = operands::source(l, w, s);
-    l = put(l, b',');
-    names::reg(l, w, d)
+    l.text(names::op_name(op));
+    l.text(names::op_mark(op, w));
+    l.byte(b' ');
+    operands::source(l, w, s);
+    l.byte(b',');
+    names::reg(l, w, d);
 }
 
-fn count(mut l: Line, way: Way, w: Width, by: By, d: u8) -> Line
-    ensures { Adds l (count_text way w by d) result }
+// A name with its size.
+fn sized(l: &mut Line, name: &str, w: Width)
+    ensures { l.new ≡ added l.old (name.now ++ (mark_of w ++ ascii " ")) }
 {
-    l = names::way_name(l, way);
-    l = names::mark(l, w);
-    l = put(l, b' ');
-    l = operands::count(l, w, by);
-    names::reg(l, w, d)
+    l.text(name);
+    l.text(names::mark(w));
+    l.byte(b' ');
 }
 
-fn adds(mut l: Line, way: Way, by: By, d: u8) -> Line
-    ensures { Adds l (adds_text way by d) result }
+fn count(l: &mut Line, way: Way, w: Width, by: By, d: u8)
+    ensures { l.new ≡ added l.old (count_text way w by d) }
 {
-    l = names::adds_name(l, way);
-    l = names::by(l, by);
-    names::long_reg(l, d)
+    sized(l, names::way_name(way), w);
+    l.text(operands::count(w, by));
+    names::reg(l, w, d);
 }
 
-fn decimal(l: Line, way: Way, d: u8) -> Line
-    ensures { Adds l (decimal_text way d) result }
+fn adds(l: &mut Line, way: Way, by: By, d: u8)
+    ensures { l.new ≡ added l.old (adds_text way by d) }
 {
-    let a = names::decimal_name(l, way);
-    names::byte_reg(a, d)
+    l.text(names::adds_name(way));
+    l.text(names::by(by));
+    names::long_reg(l, d);
 }
 
-fn shift(mut l: Line, turn: Turn, w: Width, d: u8) -> Line
-    ensures { Adds l (shift_text turn w d) result }
+// Shifts, and what changes a register by itself.
+fn alone(l: &mut Line, name: &str, w: Width, d: u8)
+    ensures { l.new ≡ added l.old (name.now ++ (mark_of w ++ (ascii " " ++ reg_of w d))) }
 {
-    l = names::turn_name(l, turn);
-    l = names::mark(l, w);
-    l = put(l, b' ');
-    names::reg(l, w, d)
+    sized(l, name, w);
+    names::reg(l, w, d);
 }
 
-fn unary(mut l: Line, single: Single, w: Width, d: u8) -> Line
-    ensures { Adds l (unary_text single w d) result }
-{
-    l = names::single_name(l, single);
-    l = names::mark(l, w);
-    l = put(l, b' ');
-    names::reg(l, w, d)
-}
-
-// The mark, the source and the destination of a product or a quotient.
-fn product(mut l: Line, h: Half, s: u8, d: u8) -> Line
-    ensures { Adds l (product_text h s d) result }
+// A product or a quotient: its size, the source and the destination.
+fn product(l: &mut Line, name: &str, h: Half, s: u8, d: u8)
+    ensures { l.new ≡ added l.old (name.now ++ product_text h s d) }
 {
     let w = products::factor_width(h);
-    l = names::mark(l, w);
-    l = put(l, b' ');
-    l = names::reg(l, w, s);
-    l = put(l, b',');
-    names::reg(l, products::product_width(h), d)
+    sized(l, name, w);
+    names::reg(l, w, s);
+    l.byte(b',');
+    names::reg(l, products::product_width(h), d);
 }
 
-fn multiply(l: Line, sign: Sign, h: Half, s: u8, d: u8) -> Line
-    ensures { Adds l (multiply_text sign h s d) result }
+// A bit instruction: the bit's number and its byte.
+fn bit(l: &mut Line, name: &str, index: Index, spot: Spot)
+    ensures { l.new ≡ added l.old (name.now ++ bit_text index spot) }
 {
-    let a = names::multiply_name(l, sign);
-    product(a, h, s, d)
+    l.text(name);
+    operands::index(l, index);
+    l.byte(b',');
+    operands::spot(l, spot);
 }
 
-fn divide(l: Line, sign: Sign, h: Half, s: u8, d: u8) -> Line
-    ensures { Adds l (divide_text sign h s d) result }
+fn moved(l: &mut Line, dir: Dir, w: Width, p: Place, d: u8)
+    ensures { l.new ≡ added l.old (move_text dir w p d) }
 {
-    let a = names::divide_name(l, sign);
-    product(a, h, s, d)
-}
-
-// The bit's number and its byte.
-fn bit(mut l: Line, index: Index, spot: Spot) -> Line
-    ensures { Adds l (bit_text index spot) result }
-{
-    l = operands::index(l, index);
-    l = put(l, b',');
-    operands::spot(l, spot)
-}
-
-fn take(l: Line, take: Take, index: Index, spot: Spot) -> Line
-    ensures { Adds l (take_text take index spot) result }
-{
-    let a = names::take_name(l, take);
-    bit(a, index, spot)
-}
-
-fn give(l: Line, give: Give, index: Index, spot: Spot) -> Line
-    ensures { Adds l (give_text give index spot) result }
-{
-    let a = names::give_name(l, give);
-    bit(a, index, spot)
-}
-
-fn load(mut l: Line, w: Width, p: Place, d: u8) -> Line
-    ensures { Adds l (load_text w p d) result }
-{
-    l = names::op_name(l, Op::Mov);
-    l = names::mark(l, w);
-    l = put(l, b' ');
-    l = operands::place(l, Dir::Load, p);
-    l = put(l, b',');
-    names::reg(l, w, d)
-}
-
-fn store(mut l: Line, w: Width, p: Place, d: u8) -> Line
-    ensures { Adds l (store_text w p d) result }
-{
-    l = names::op_name(l, Op::Mov);
-    l = names::mark(l, w);
-    l = put(l, b' ');
-    l = names::reg(l, w, d);
-    l = put(l, b',');
-    operands::place(l, Dir::Store, p)
-}
-
-fn moved(l: Line, dir: Dir, w: Width, p: Place, d: u8) -> Line
-    ensures { Adds l (move_text dir w p d) result }
-{
+    sized(l, names::op_name(Op::Mov), w);
     match dir {
-        Dir::Load => load(l, w, p, d),
-        Dir::Store => store(l, w, p, d),
+        Dir::Load => {
+            operands::place(l, dir, p);
+            l.byte(b',');
+            names::reg(l, w, d);
+        }
+        Dir::Store => {
+            names::reg(l, w, d);
+            l.byte(b',');
+            operands::place(l, dir, p);
+        }
     }
 }
 
-fn bcc(mut l: Line, next: u32, c: u8, reach: Reach) -> Line
-    ensures { Adds l (bcc_text next c reach) result }
+fn bcc(l: &mut Line, next: u32, c: u8, reach: Reach)
+    ensures { l.new ≡ added l.old (bcc_text next c reach) }
 {
-    l = names::branch_name(l, c);
-    l = put(l, b' ');
-    operands::reach(l, next, reach)
+    names::branch_name(l, c);
+    branch(l, " ", next, reach);
 }
 
-fn bsr(l: Line, next: u32, reach: Reach) -> Line
-    ensures { Adds l (bsr_text next reach) result }
+fn branch(l: &mut Line, name: &str, next: u32, reach: Reach)
+    ensures { l.new ≡ added l.old (name.now ++ reach_of (target_of next reach) reach) }
 {
-    let a = bytes(l, b"BSR ");
-    operands::reach(a, next, reach)
+    l.text(name);
+    operands::reach(l, next, reach);
 }
 
-fn jmp(l: Line, to: Target) -> Line
-    ensures { Adds l (jmp_text to) result }
+fn jump(l: &mut Line, name: &str, to: Target)
+    ensures { l.new ≡ added l.old (name.now ++ target_text to) }
 {
-    let a = bytes(l, b"JMP ");
-    operands::target(a, to)
-}
-
-fn jsr(l: Line, to: Target) -> Line
-    ensures { Adds l (jsr_text to) result }
-{
-    let a = bytes(l, b"JSR ");
-    operands::target(a, to)
+    l.text(name);
+    operands::target(l, to);
 }
 
 // An instruction; the one after it is at `next`, from which branches count.
-pub fn instruction(l: Line, next: u32, i: Instruction) -> Line
-    ensures { Adds l (text_of next i) result }
+pub fn instruction(l: &mut Line, next: u32, i: Instruction)
+    ensures { l.new ≡ added l.old (text_of next i) }
 {
     match i {
-        Instruction::Nop => names::named(l, 493),
-        Instruction::Stc(d) => stc(l, d),
+        Instruction::Nop => l.text("NOP"),
+        Instruction::Stc(d) => on_byte(l, "STC.B CCR,", d),
         Instruction::LdcReg(d) => ldc(l, d),
         Instruction::Ccr(change, x) => ccr(l, change, x),
         Instruction::Alu(op, w, s, d) => alu(l, op, w, s, d),
         Instruction::IncDec(way, w, by, d) => count(l, way, w, by, d),
         Instruction::AddsSubs(way, by, d) => adds(l, way, by, d),
-        Instruction::Decimal(way, d) => decimal(l, way, d),
-        Instruction::Shift(turn, w, d) => shift(l, turn, w, d),
-        Instruction::Unary(single, w, d) => unary(l, single, w, d),
-        Instruction::Multiply(sign, h, s, d) => multiply(l, sign, h, s, d),
-        Instruction::Divide(sign, h, s, d) => divide(l, sign, h, s, d),
-        Instruction::Takes(op, index, spot) => take(l, op, index, spot),
-        Instruction::Gives(op, index, spot) => give(l, op, index, spot),
+        Instruction::Decimal(way, d) => on_byte(l, names::decimal_name(way), d),
+        Instruction::Shift(turn, w, d) => alone(l, names::turn_name(turn), w, d),
+        Instruction::Unary(single, w, d) => alone(l, names::single_name(single), w, d),
+        Instruction::Multiply(sign, h, s, d) => product(l, names::multiply_name(sign), h, s, d),
+        Instruction::Divide(sign, h, s, d) => product(l, names::divide_name(sign), h, s, d),
+        Instruction::Takes(op, index, spot) => bit(l, names::take_name(op), index, spot),
+        Instruction::Gives(op, index, spot) => bit(l, names::give_name(op), index, spot),
         Instruction::Move(dir, w, p, d) => moved(l, dir, w, p, d),
         Instruction::Bcc(c, reach) => bcc(l, next, c, reach),
-        Instruction::Jmp(to) => jmp(l, to),
-        Instruction::Bsr(reach) => bsr(l, next, reach),
-        Instruction::Jsr(to) => jsr(l, to),
-        Instruction::Rts => names::named(l, 503),
+        Instruction::Jmp(to) => jump(l, "JMP ", to),
+        Instruction::Bsr(reach) => branch(l, "BSR ", next, reach),
+        Instruction::Jsr(to) => jump(l, "JSR ", to),
+        Instruction::Rts => l.text("RTS"),
     }
 }

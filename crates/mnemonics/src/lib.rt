@@ -1,5 +1,5 @@
 // An instruction as the maker's assembler writes it.
-#![tactic(auto)]
+#![tactic(auto, using(text::proofs::Adding::added_append), unfolding(text::specs::Lines::added))]
 
 mod instructions;
 mod names;

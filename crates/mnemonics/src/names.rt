@@ -1,302 +1,226 @@
 // The names of the instructions and of the registers.
-ghost use Rattle.std.specs.Borrow.{Bor};
 ghost use Rattle.std.specs.Prelude.{◌≡◌, [], ◌∷◌};
-ghost use Rattle.text.specs.Lines.{Adds};
-ghost use Rattle.mnemonics.specs.MirrorTable.{name_at};
-ghost use Rattle.mnemonics.specs.Names.{numeral_of, half_of, letter_of_word, byte_reg, word_reg, long_reg, reg_of, mark_of, op_name, op_mark, way_name, multiply_name, divide_name, take_name, give_name, adds_name, decimal_name, turn_name, single_name, change_name, by_of, branch_names, branch_name};
+ghost use Rattle.text.specs.Lines.{added};
+ghost use Rattle.mnemonics.specs.Names.{numeral_of, half_of, letter_of_word, byte_reg, word_reg, long_reg, reg_of, mark_of, op_name, op_mark, way_name, multiply_name, divide_name, take_name, give_name, adds_name, decimal_name, turn_name, single_name, change_name, by_of, branch_name};
 
 use arith::Width;
 use codes::{By, Change, Give, Op, Sign, Single, Take, Turn, Way};
-use text::{Line, bytes, put};
+use text::Line;
 
-// The names in rows of six.
-const NAMES: [u8; 354] = *b"ADD   SUB   CMP   MOV   ADDX  SUBX  OR    XOR   AND   \
-    INC   DEC   ADDS  SUBS  DAA   DAS   \
-    MULXU MULXS DIVXU DIVXS \
-    BTST  BOR   BIOR  BXOR  BIXOR BAND  BIAND BLD   BILD  \
-    BSET  BNOT  BCLR  BST   BIST  \
-    SHLL  SHLR  ROTXL ROTXR SHAL  SHAR  ROTL  ROTR  \
-    NOT   NEG   EXTU  EXTS  \
-    ORC   XORC  ANDC  LDC.B \
-    NOP   RTS   .B    .W    .L    #1,   #2,   #4,   :8    :16   ";
-
-// The name whose row and length p has: ten times the row, and the length.
-pub fn named(l: Line, p: u16) -> Line
-    ensures { Adds l (name_at p) result }
+// The number of a register, or of a bit.
+pub fn which(l: &mut Line, d: u8)
+    ensures { l.new ≡ added l.old (numeral_of d ∷ []) }
 {
-    let from = (p / 10 % 59) as usize * 6;
-    let n = (p % 10 % 7) as usize;
-    bytes(l, &NAMES[from..from + n])
+    l.byte(b'0' + d % 8);
 }
 
-fn numeral(d: u8) -> u8
-    ensures { result ≡ numeral_of d }
-{
-    b'0' + d % 8
-}
-
+#[tactic(auto, unfolding(crate::specs::Names::half_of))]
 fn half(d: u8) -> u8
     ensures { result ≡ half_of d }
 {
     if d % 16 < 8 { b'H' } else { b'L' }
 }
 
+#[tactic(auto, unfolding(crate::specs::Names::letter_of_word))]
 fn word_letter(d: u8) -> u8
     ensures { result ≡ letter_of_word d }
 {
     if d % 16 < 8 { b'R' } else { b'E' }
 }
 
-// The number of a register, or of a bit.
-pub fn which(l: Line, d: u8) -> Line
-    ensures { Adds l (numeral_of d ∷ []) result }
+pub fn byte_reg(l: &mut Line, d: u8)
+    ensures { l.new ≡ added l.old (byte_reg d) }
 {
-    put(l, numeral(d))
+    l.byte(b'R');
+    which(l, d);
+    l.byte(half(d));
 }
 
-fn which_half(l: Line, d: u8) -> Line
-    ensures { Adds l (half_of d ∷ []) result }
+pub fn long_reg(l: &mut Line, d: u8)
+    ensures { l.new ≡ added l.old (long_reg d) }
 {
-    put(l, half(d))
-}
-
-fn which_word(l: Line, d: u8) -> Line
-    ensures { Adds l (letter_of_word d ∷ []) result }
-{
-    put(l, word_letter(d))
-}
-
-pub fn byte_reg(l: Line, d: u8) -> Line
-    ensures { Adds l (byte_reg d) result }
-{
-    let a = put(l, b'R');
-    let b = which(a, d);
-    which_half(b, d)
-}
-
-fn word_reg(l: Line, d: u8) -> Line
-    ensures { Adds l (word_reg d) result }
-{
-    let a = which_word(l, d);
-    which(a, d)
-}
-
-pub fn long_reg(l: Line, d: u8) -> Line
-    ensures { Adds l (long_reg d) result }
-{
-    let a = bytes(l, b"ER");
-    which(a, d)
+    l.text("ER");
+    which(l, d);
 }
 
 // A register by its digit of the code.
-pub fn reg(l: Line, w: Width, d: u8) -> Line
-    ensures { Adds l (reg_of w d) result }
+pub fn reg(l: &mut Line, w: Width, d: u8)
+    ensures { l.new ≡ added l.old (reg_of w d) }
 {
     match w {
         Width::Byte => byte_reg(l, d),
-        Width::Word => word_reg(l, d),
+        Width::Word => {
+            l.byte(word_letter(d));
+            which(l, d);
+        }
         Width::Long => long_reg(l, d),
     }
 }
 
-pub fn mark(l: Line, w: Width) -> Line
-    ensures { Adds l (mark_of w) result }
+pub fn mark(w: Width) -> &'static str
+    ensures { result.now ≡ mark_of w }
 {
     match w {
-        Width::Byte => named(l, 512),
-        Width::Word => named(l, 522),
-        Width::Long => named(l, 532),
+        Width::Byte => ".B",
+        Width::Word => ".W",
+        Width::Long => ".L",
     }
 }
 
-fn op_at(op: Op) -> u16
-    ensures { name_at result ≡ op_name op }
+pub fn op_name(op: Op) -> &'static str
+    ensures { result.now ≡ op_name op }
 {
     match op {
-        Op::Add => 3,
-        Op::Sub => 13,
-        Op::Cmp => 23,
-        Op::Mov => 33,
-        Op::Addx => 44,
-        Op::Subx => 54,
-        Op::Or => 62,
-        Op::Xor => 73,
-        Op::And => 83,
+        Op::Add => "ADD",
+        Op::Sub => "SUB",
+        Op::Cmp => "CMP",
+        Op::Mov => "MOV",
+        Op::Addx => "ADDX",
+        Op::Subx => "SUBX",
+        Op::Or => "OR",
+        Op::Xor => "XOR",
+        Op::And => "AND",
     }
-}
-
-pub fn op_name(l: Line, op: Op) -> Line
-    ensures { Adds l (op_name op) result }
-{
-    named(l, op_at(op))
 }
 
 // ADDX and SUBX are written without a size.
-pub fn op_mark(l: Line, op: Op, w: Width) -> Line
-    ensures { Adds l (op_mark op w) result }
+pub fn op_mark(op: Op, w: Width) -> &'static str
+    ensures { result.now ≡ op_mark op w }
 {
     match op {
-        Op::Addx | Op::Subx => l,
-        _ => mark(l, w),
+        Op::Addx | Op::Subx => "",
+        _ => mark(w),
     }
 }
 
-pub fn way_name(l: Line, way: Way) -> Line
-    ensures { Adds l (way_name way) result }
+pub fn way_name(way: Way) -> &'static str
+    ensures { result.now ≡ way_name way }
 {
     match way {
-        Way::Up => named(l, 93),
-        Way::Down => named(l, 103),
+        Way::Up => "INC",
+        Way::Down => "DEC",
     }
 }
 
-pub fn multiply_name(l: Line, sign: Sign) -> Line
-    ensures { Adds l (multiply_name sign) result }
+pub fn multiply_name(sign: Sign) -> &'static str
+    ensures { result.now ≡ multiply_name sign }
 {
     match sign {
-        Sign::Unsigned => named(l, 155),
-        Sign::Signed => named(l, 165),
+        Sign::Unsigned => "MULXU",
+        Sign::Signed => "MULXS",
     }
 }
 
-pub fn divide_name(l: Line, sign: Sign) -> Line
-    ensures { Adds l (divide_name sign) result }
+pub fn divide_name(sign: Sign) -> &'static str
+    ensures { result.now ≡ divide_name sign }
 {
     match sign {
-        Sign::Unsigned => named(l, 175),
-        Sign::Signed => named(l, 185),
+        Sign::Unsigned => "DIVXU",
+        Sign::Signed => "DIVXS",
     }
 }
 
-fn take_at(take: Take) -> u16
-    ensures { name_at result ≡ take_name take }
+pub fn take_name(take: Take) -> &'static str
+    ensures { result.now ≡ take_name take }
 {
     match take {
-        Take::Btst => 195,
-        Take::Bor => 204,
-        Take::Bior => 215,
-        Take::Bxor => 225,
-        Take::Bixor => 236,
-        Take::Band => 245,
-        Take::Biand => 256,
-        Take::Bld => 264,
-        Take::Bild => 275,
+        Take::Btst => "BTST ",
+        Take::Bor => "BOR ",
+        Take::Bior => "BIOR ",
+        Take::Bxor => "BXOR ",
+        Take::Bixor => "BIXOR ",
+        Take::Band => "BAND ",
+        Take::Biand => "BIAND ",
+        Take::Bld => "BLD ",
+        Take::Bild => "BILD ",
     }
 }
 
-pub fn take_name(l: Line, take: Take) -> Line
-    ensures { Adds l (take_name take) result }
-{
-    named(l, take_at(take))
-}
-
-fn give_at(give: Give) -> u16
-    ensures { name_at result ≡ give_name give }
+pub fn give_name(give: Give) -> &'static str
+    ensures { result.now ≡ give_name give }
 {
     match give {
-        Give::Bset => 285,
-        Give::Bnot => 295,
-        Give::Bclr => 305,
-        Give::Bst => 314,
-        Give::Bist => 325,
+        Give::Bset => "BSET ",
+        Give::Bnot => "BNOT ",
+        Give::Bclr => "BCLR ",
+        Give::Bst => "BST ",
+        Give::Bist => "BIST ",
     }
 }
 
-pub fn give_name(l: Line, give: Give) -> Line
-    ensures { Adds l (give_name give) result }
-{
-    named(l, give_at(give))
-}
-
-pub fn adds_name(l: Line, way: Way) -> Line
-    ensures { Adds l (adds_name way) result }
+pub fn adds_name(way: Way) -> &'static str
+    ensures { result.now ≡ adds_name way }
 {
     match way {
-        Way::Up => named(l, 115),
-        Way::Down => named(l, 125),
+        Way::Up => "ADDS ",
+        Way::Down => "SUBS ",
     }
 }
 
-pub fn decimal_name(l: Line, way: Way) -> Line
-    ensures { Adds l (decimal_name way) result }
+pub fn decimal_name(way: Way) -> &'static str
+    ensures { result.now ≡ decimal_name way }
 {
     match way {
-        Way::Up => named(l, 134),
-        Way::Down => named(l, 144),
+        Way::Up => "DAA ",
+        Way::Down => "DAS ",
     }
 }
 
-fn turn_at(turn: Turn) -> u16
-    ensures { name_at result ≡ turn_name turn }
+pub fn turn_name(turn: Turn) -> &'static str
+    ensures { result.now ≡ turn_name turn }
 {
     match turn {
-        Turn::Shll => 334,
-        Turn::Shlr => 344,
-        Turn::Rotxl => 355,
-        Turn::Rotxr => 365,
-        Turn::Shal => 374,
-        Turn::Shar => 384,
-        Turn::Rotl => 394,
-        Turn::Rotr => 404,
+        Turn::Shll => "SHLL",
+        Turn::Shlr => "SHLR",
+        Turn::Rotxl => "ROTXL",
+        Turn::Rotxr => "ROTXR",
+        Turn::Shal => "SHAL",
+        Turn::Shar => "SHAR",
+        Turn::Rotl => "ROTL",
+        Turn::Rotr => "ROTR",
     }
 }
 
-pub fn turn_name(l: Line, turn: Turn) -> Line
-    ensures { Adds l (turn_name turn) result }
-{
-    named(l, turn_at(turn))
-}
-
-fn single_at(single: Single) -> u16
-    ensures { name_at result ≡ single_name single }
+pub fn single_name(single: Single) -> &'static str
+    ensures { result.now ≡ single_name single }
 {
     match single {
-        Single::Not => 413,
-        Single::Neg => 423,
-        Single::Extu => 434,
-        Single::Exts => 444,
+        Single::Not => "NOT",
+        Single::Neg => "NEG",
+        Single::Extu => "EXTU",
+        Single::Exts => "EXTS",
     }
 }
 
-pub fn single_name(l: Line, single: Single) -> Line
-    ensures { Adds l (single_name single) result }
-{
-    named(l, single_at(single))
-}
-
-fn change_at(change: Change) -> u16
-    ensures { name_at result ≡ change_name change }
+pub fn change_name(change: Change) -> &'static str
+    ensures { result.now ≡ change_name change }
 {
     match change {
-        Change::Orc => 454,
-        Change::Xorc => 465,
-        Change::Andc => 475,
-        Change::Ldc => 486,
+        Change::Orc => "ORC ",
+        Change::Xorc => "XORC ",
+        Change::Andc => "ANDC ",
+        Change::Ldc => "LDC.B ",
     }
 }
 
-pub fn change_name(l: Line, change: Change) -> Line
-    ensures { Adds l (change_name change) result }
-{
-    named(l, change_at(change))
-}
-
-pub fn by(l: Line, by: By) -> Line
-    ensures { Adds l (by_of by) result }
+pub fn by(by: By) -> &'static str
+    ensures { result.now ≡ by_of by }
 {
     match by {
-        By::One => named(l, 543),
-        By::Two => named(l, 553),
-        By::Four => named(l, 563),
+        By::One => "#1,",
+        By::Two => "#2,",
+        By::Four => "#4,",
     }
 }
 
-const BRANCHES: [u8; 48] = *b"BRABRNBHIBLSBCCBCSBNEBEQBVCBVSBPLBMIBGEBLTBGTBLE";
+const BRANCHES: [[u8; 3]; 16] = [
+    *b"BRA", *b"BRN", *b"BHI", *b"BLS", *b"BCC", *b"BCS", *b"BNE", *b"BEQ", *b"BVC", *b"BVS",
+    *b"BPL", *b"BMI", *b"BGE", *b"BLT", *b"BGT", *b"BLE",
+];
 
 // The name of a branch by the digit of its condition.
-pub fn branch_name(l: Line, c: u8) -> Line
-    ensures { Adds l (branch_name c) result }
+pub fn branch_name(l: &mut Line, c: u8)
+    ensures { l.new ≡ added l.old (branch_name c) }
 {
-    let from = (c % 16) as usize * 3;
-    bytes(l, &BRANCHES[from..from + 3])
+    l.bytes(&BRANCHES[(c % 16) as usize]);
 }

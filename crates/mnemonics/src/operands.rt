@@ -1,33 +1,33 @@
 // Operands: immediates, operands in memory, targets.
-ghost use Rattle.std.specs.Prelude.{◌≡◌, ◌+◌};
-ghost use Rattle.text.specs.Lines.{Adds};
+ghost use Rattle.std.specs.Prelude.{◌≡◌, ◌++◌};
 ghost use Rattle.flow.specs.Targets.{target_of};
-ghost use Rattle.mnemonics.specs.Operands.{hex_by, immediate_of, source_of, count_of, address_of, at_reg, up_from, down_to, step_of, disp_of, extended, abs8_of, abs16_of, abs24_of, place_text, numbered_of, index_text, spot_text, reach_mark, reach_of, vector_of, target_text};
+ghost use Rattle.text.specs.Lines.{added, ascii};
+ghost use Rattle.mnemonics.specs.Operands.{hex_by, immediate_of, source_of, count_of, address_of, at_reg, step_of, disp_of, extended, abs8_of, place_text, index_text, spot_text, reach_mark, reach_of, vector_of, target_text};
 
 use crate::names;
 use arith::Width;
 use codes::{By, Dir, Index, Place, Reach, Source, Spot, Target};
-use text::{Line, bytes, put};
+use text::Line;
 
-fn hex_by(l: Line, w: Width, x: u32) -> Line
-    ensures { Adds l (hex_by w x) result }
+fn hex_by(l: &mut Line, w: Width, x: u32)
+    ensures { l.new ≡ added l.old (hex_by w x) }
 {
     match w {
-        Width::Byte => text::hex2(l, true, x),
-        Width::Word => text::hex4(l, true, x),
-        Width::Long => text::hex8(l, true, x),
+        Width::Byte => l.hex(2, true, x),
+        Width::Word => l.hex(4, true, x),
+        Width::Long => l.hex(8, true, x),
     }
 }
 
-pub fn immediate(l: Line, w: Width, x: u32) -> Line
-    ensures { Adds l (immediate_of w x) result }
+pub fn immediate(l: &mut Line, w: Width, x: u32)
+    ensures { l.new ≡ added l.old (immediate_of w x) }
 {
-    let a = bytes(l, b"#H'");
-    hex_by(a, w, x)
+    l.text("#H'");
+    hex_by(l, w, x);
 }
 
-pub fn source(l: Line, w: Width, s: Source) -> Line
-    ensures { Adds l (source_of w s) result }
+pub fn source(l: &mut Line, w: Width, s: Source)
+    ensures { l.new ≡ added l.old (source_of w s) }
 {
     match s {
         Source::Reg(d) => names::reg(l, w, d),
@@ -36,137 +36,108 @@ pub fn source(l: Line, w: Width, s: Source) -> Line
 }
 
 // The number of INC and DEC, which a byte does not have.
-pub fn count(l: Line, w: Width, by: By) -> Line
-    ensures { Adds l (count_of w by) result }
+pub fn count(w: Width, by: By) -> &'static str
+    ensures { result.now ≡ count_of w by }
 {
     match w {
-        Width::Byte => l,
-        Width::Word => names::by(l, by),
-        Width::Long => names::by(l, by),
+        Width::Byte => "",
+        Width::Word | Width::Long => names::by(by),
     }
 }
 
-fn address(l: Line, a: u32) -> Line
-    ensures { Adds l (address_of a) result }
+fn address(l: &mut Line, a: u32)
+    ensures { l.new ≡ added l.old (address_of a) }
 {
-    let b = bytes(l, b"H'");
-    text::hex6(b, true, a)
+    l.text("H'");
+    l.hex(6, true, a);
 }
 
-fn at_reg(mut l: Line, e: u8) -> Line
-    ensures { Adds l (at_reg e) result }
+fn at_reg(l: &mut Line, e: u8)
+    ensures { l.new ≡ added l.old (at_reg e) }
 {
-    l = put(l, b'@');
-    names::long_reg(l, e)
+    l.byte(b'@');
+    names::long_reg(l, e);
 }
 
-fn up_from(mut l: Line, e: u8) -> Line
-    ensures { Adds l (up_from e) result }
-{
-    l = at_reg(l, e);
-    put(l, b'+')
-}
-
-fn down_to(l: Line, e: u8) -> Line
-    ensures { Adds l (down_to e) result }
-{
-    let a = bytes(l, b"@-");
-    names::long_reg(a, e)
-}
-
-fn step(l: Line, dir: Dir, e: u8) -> Line
-    ensures { Adds l (step_of dir e) result }
+fn step(l: &mut Line, dir: Dir, e: u8)
+    ensures { l.new ≡ added l.old (step_of dir e) }
 {
     match dir {
-        Dir::Load => up_from(l, e),
-        Dir::Store => down_to(l, e),
+        Dir::Load => {
+            at_reg(l, e);
+            l.byte(b'+');
+        }
+        Dir::Store => {
+            l.text("@-");
+            names::long_reg(l, e);
+        }
     }
 }
 
-fn disp(mut l: Line, e: u8, d: u16) -> Line
-    ensures { Adds l (disp_of e d) result }
+fn disp(l: &mut Line, e: u8, d: u16)
+    ensures { l.new ≡ added l.old (disp_of e d) }
 {
-    l = bytes(l, b"@(");
-    l = text::signed(l, d);
-    l = bytes(l, b":16,");
-    l = names::long_reg(l, e);
-    put(l, b')')
+    l.text("@(");
+    l.signed(d);
+    l.text(":16,");
+    names::long_reg(l, e);
+    l.byte(b')');
 }
 
 // aa:16 with its sign extended to 24 bits.
+#[tactic(auto, unfolding(crate::specs::Operands::extended))]
 fn extend(a: u16) -> u32
     ensures { result ≡ extended a }
 {
-    let x = a as u32;
+    let x = u32::from(a);
     if a < 0x8000 { x } else { 0xFF0000 + x }
 }
 
-fn abs8(mut l: Line, a: u8) -> Line
-    ensures { Adds l (abs8_of a) result }
+// An address, and how much of it the code holds.
+fn absolute(l: &mut Line, a: u32, held: &str)
+    ensures { l.new ≡ added l.old (ascii "@" ++ (address_of a ++ held.now)) }
 {
-    l = put(l, b'@');
-    let x = a as u32;
-    l = address(l, 0xFFFF00 + x);
-    bytes(l, b":8")
+    l.byte(b'@');
+    address(l, a);
+    l.text(held);
 }
 
-fn abs16(l: Line, a: u16) -> Line
-    ensures { Adds l (abs16_of (extended a)) result }
+fn abs8(l: &mut Line, a: u8)
+    ensures { l.new ≡ added l.old (abs8_of a) }
 {
-    let x = extend(a);
-    abs16_at(l, x)
-}
-
-fn abs16_at(mut l: Line, a: u32) -> Line
-    ensures { Adds l (abs16_of a) result }
-{
-    l = put(l, b'@');
-    l = address(l, a);
-    bytes(l, b":16")
-}
-
-fn abs24(mut l: Line, a: u32) -> Line
-    ensures { Adds l (abs24_of a) result }
-{
-    l = put(l, b'@');
-    l = address(l, a);
-    bytes(l, b":24")
+    absolute(l, 0xFFFF00 + u32::from(a), ":8");
 }
 
 // An operand in memory.
-pub fn place(l: Line, dir: Dir, p: Place) -> Line
-    ensures { Adds l (place_text dir p) result }
+pub fn place(l: &mut Line, dir: Dir, p: Place)
+    ensures { l.new ≡ added l.old (place_text dir p) }
 {
     match p {
         Place::At(e) => at_reg(l, e),
         Place::Step(e) => step(l, dir, e),
         Place::Disp(e, d) => disp(l, e, d),
         Place::Abs8(a) => abs8(l, a),
-        Place::Abs16(a) => abs16(l, a),
-        Place::Abs24(a) => abs24(l, a),
+        Place::Abs16(a) => absolute(l, extend(a), ":16"),
+        Place::Abs24(a) => absolute(l, a, ":24"),
     }
 }
 
-fn numbered(mut l: Line, n: u8) -> Line
-    ensures { Adds l (numbered_of n) result }
-{
-    l = put(l, b'#');
-    names::which(l, n)
-}
-
 // A bit's number.
-pub fn index(l: Line, index: Index) -> Line
-    ensures { Adds l (index_text index) result }
+pub fn index(l: &mut Line, index: Index)
+    ensures { l.new ≡ added l.old (index_text index) }
 {
     match index {
-        Index::Numbered(n) => numbered(l, n),
+        Index::Numbered(n) => {
+            l.byte(b'#');
+            names::which(l, n);
+        }
         Index::ByPart(r) => names::byte_reg(l, r),
     }
 }
 
 // The byte that it is in.
-pub fn spot(l: Line, spot: Spot) -> Line
-    ensures { Adds l (spot_text spot) result }
+pub fn spot(l: &mut Line, spot: Spot)
+    ensures { l.new ≡ added l.old (spot_text spot) }
 {
     match spot {
         Spot::InPart(d) => names::byte_reg(l, d),
@@ -175,45 +146,38 @@ pub fn spot(l: Line, spot: Spot) -> Line
     }
 }
 
-fn reach_mark(l: Line, reach: Reach) -> Line
-    ensures { Adds l (reach_mark reach) result }
+fn reach_mark(reach: Reach) -> &'static str
+    ensures { result.now ≡ reach_mark reach }
 {
     match reach {
-        Reach::Near(_) => names::named(l, 572),
-        Reach::Far(_) => names::named(l, 583),
+        Reach::Near(_) => ":8",
+        Reach::Far(_) => ":16",
     }
 }
 
-fn reach_at(l: Line, to: u32, reach: Reach) -> Line
-    ensures { Adds l (reach_of to reach) result }
-{
-    let a = address(l, to);
-    reach_mark(a, reach)
-}
-
 // The target of a branch whose next instruction is at `next`.
-pub fn reach(l: Line, next: u32, by: Reach) -> Line
-    ensures { Adds l (reach_of (target_of next by) by) result }
+pub fn reach(l: &mut Line, next: u32, by: Reach)
+    ensures { l.new ≡ added l.old (reach_of (target_of next by) by) }
 {
-    let to = flow::target(next, by);
-    reach_at(l, to, by)
+    address(l, flow::target(next, by));
+    l.text(reach_mark(by));
 }
 
-fn vector(mut l: Line, a: u8) -> Line
-    ensures { Adds l (vector_of a) result }
+fn vector(l: &mut Line, a: u8)
+    ensures { l.new ≡ added l.old (vector_of a) }
 {
-    l = bytes(l, b"@@H'");
-    l = text::hex2(l, true, a as u32);
-    bytes(l, b":8")
+    l.text("@@H'");
+    l.hex(2, true, u32::from(a));
+    l.text(":8");
 }
 
 // Where JMP and JSR go.
-pub fn target(l: Line, to: Target) -> Line
-    ensures { Adds l (target_text to) result }
+pub fn target(l: &mut Line, to: Target)
+    ensures { l.new ≡ added l.old (target_text to) }
 {
     match to {
         Target::ByReg(e) => at_reg(l, e),
-        Target::Direct(a) => abs24(l, a),
+        Target::Direct(a) => absolute(l, a, ":24"),
         Target::Vector(a) => vector(l, a),
     }
 }

@@ -7,8 +7,9 @@ ghost use Rattle.registers.specs.Lent.{lent};
 ghost use Rattle.operate.specs.MirrorLent.{Does, effect_in};
 ghost use Rattle.multiply.specs.Multiply.{multiply_of, divided_of, divide_of};
 
+use arith::Moved;
 use operate::Deed;
-use products::{Division, Half};
+use products::Half;
 use refusal::Refusal;
 use registers::Condition;
 
@@ -34,15 +35,15 @@ pub fn mulxs(h: Half, er: &mut [u32; 8], s: u8, d: u8, f: Condition) -> Conditio
 }
 
 // The destination gets quotient and remainder; where there are none, refusal 14 at the instruction.
-fn divided(q: Division, h: Half, er: &mut [u32; 8], d: u8, pc: u32, f: Condition) -> Deed
+fn divided(q: Option<Moved>, h: Half, er: &mut [u32; 8], d: u8, pc: u32, f: Condition) -> Deed
     ensures { effect_in er.new pc result ≡ divided_of q h d (lent er.old pc f) }
 {
     match q {
-        Division::Divided(x) => {
+        Some(x) => {
             registers::put(products::product_width(h), er, d, x.value);
             operate::did(f.with_product(x))
         }
-        Division::Fails => operate::refused(f, Refusal::DivideFails(pc)),
+        None => operate::refused(f, Refusal::DivideFails(pc)),
     }
 }
 

@@ -1,7 +1,7 @@
 -- An operation done where the registers lie. Nothing here is to be believed: each says that the registers put together are those of the operation's definition.
-use Rattle.std.specs.Prelude.{◌≡◌, ℕ, List}
+use Rattle.std.specs.Prelude.{◌≡◌, ℕ, List, Result}
+use Rattle.refusal.specs.declared.Refusal.{Refusal}
 use Rattle.arith.specs.declared.Width.{Width}
-use Rattle.refusal.specs.declared.Outcome.{Outcome}
 use Rattle.registers.specs.declared.Condition.{Condition}
 use Rattle.registers.specs.declared.Registers.{Registers}
 use Rattle.registers.specs.Parts.{part_of}
@@ -29,7 +29,7 @@ Replaces g er f' = (f : Condition) → Does g er er f f'
 abbrev pub Fills : (Registers → Registers) → Condition → Type 0
 Fills g f' = (f : Condition) → Marks g f f'
 
-abbrev pub deed : Condition → Outcome → Deed
+abbrev pub deed : Condition → Result (Unit {0}) Refusal → Deed
 deed f o = record { condition = f; outcome = o }
 
 -- the effect that lies in the registers after a deed; so a refused one has written nothing

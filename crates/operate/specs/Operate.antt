@@ -1,13 +1,11 @@
 -- What the instructions without memory do to the registers; PC is none of theirs (document 01, "Numbers, flags and addresses"; manual 002, section 2.2).
-use Rattle.std.specs.Prelude.{ℕ, ◌+◌, ◌%◌, Bool, false}
+use Rattle.std.specs.Prelude.{ℕ, ◌+◌, ◌%◌, Bool, false, Option, Some, None}
 use Rattle.arith.specs.Widths.{bits_of, moved_of}
 use Rattle.arith.specs.Sums.{add_of, sub_of, neg_of, inc_of, dec_of}
 use Rattle.arith.specs.Logic.{and_of, or_of, xor_of, not_of, extu_of, exts_of}
 use Rattle.arith.specs.Shifts.{shll_of, shlr_of, rotxl_of, rotxr_of, shal_of, shar_of, rotl_of, rotr_of}
 use Rattle.arith.specs.Decimal.{adjust_of, daa_rows, das_rows}
 use Rattle.arith.specs.declared.Shifted.{Shifted}
-use Rattle.arith.specs.declared.Adjust.{Adjust}
-use Rattle.arith.specs.declared.Adjust.TheVariants.{Adding, NoRow}
 use Rattle.refusal.specs.declared.Refusal.TheVariants.{NoAdjustRow}
 use Rattle.registers.specs.declared.Registers.{Registers}
 use Rattle.registers.specs.Condition.{condition_of, byte_of, with_adjusted}
@@ -89,7 +87,7 @@ unfoldable pub adds_subs_of : Way → By → ℕ → Registers → Registers
 adds_subs_of way by e r = carried_of way (by_of by) e r
 
 -- DAA and DAS: the row that fits C, H and the byte x
-unfoldable pub row_of : Way → Registers → ℕ → Adjust
+unfoldable pub row_of : Way → Registers → ℕ → Option (ℕ × Bool)
 row_of Up r x = adjust_of daa_rows r.condition.c r.condition.h x
 row_of Down r x = adjust_of das_rows r.condition.c r.condition.h x
 
@@ -100,9 +98,9 @@ added_of v c x d r =
     with_condition (with_part Byte r d y.value) (with_adjusted r.condition y c)
 
 -- where no row fits, refusal 7 at the instruction
-unfoldable pub adjusted_of : Adjust → ℕ → ℕ → Registers → Effect
-adjusted_of (Adding v c) x d r = did (added_of v c x d r)
-adjusted_of NoRow x d r = refused r (NoAdjustRow r.pc)
+unfoldable pub adjusted_of : Option (ℕ × Bool) → ℕ → ℕ → Registers → Effect
+adjusted_of (Some (v, c)) x d r = did (added_of v c x d r)
+adjusted_of None x d r = refused r (NoAdjustRow r.pc)
 
 unfoldable pub decimal_of : Way → ℕ → Registers → Effect
 decimal_of way d r = adjusted_of (row_of way r (part_of Byte r d)) (part_of Byte r d) d r

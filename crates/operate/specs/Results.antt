@@ -1,12 +1,10 @@
 -- How the result of an operation is put into the part of digit d, and which flags follow it.
-use Rattle.std.specs.Prelude.{ℕ}
+use Rattle.std.specs.Prelude.{ℕ, Result, Ok, Err}
 use Rattle.arith.specs.declared.Width.{Width}
 use Rattle.arith.specs.declared.Sum.{Sum}
 use Rattle.arith.specs.declared.Counted.{Counted}
 use Rattle.arith.specs.declared.Shifted.{Shifted}
 use Rattle.arith.specs.declared.Moved.{Moved}
-use Rattle.refusal.specs.declared.Outcome.{Outcome}
-use Rattle.refusal.specs.declared.Outcome.TheVariants.{Done, Refused}
 use Rattle.refusal.specs.declared.Refusal.{Refusal}
 use Rattle.registers.specs.declared.Registers.{Registers}
 use Rattle.registers.specs.Condition.{with_sum, with_extended, with_counted, with_shifted, with_moved}
@@ -34,10 +32,10 @@ compared r x = with_condition r (with_sum r.condition x)
 -- the registers after an instruction, and how it went
 pub record Effect : Type 0 where
   pub regs : Registers
-  pub outcome : Outcome
+  pub outcome : Result (Unit {0}) Refusal
 
 abbrev pub did : Registers → Effect
-did r = record { regs = r; outcome = Done }
+did r = record { regs = r; outcome = Ok tt }
 
 abbrev pub refused : Registers → Refusal → Effect
-refused r f = record { regs = r; outcome = Refused f }
+refused r f = record { regs = r; outcome = Err f }

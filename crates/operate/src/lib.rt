@@ -1,10 +1,9 @@
 // What the instructions without memory do, where the registers lie: a function writes them and answers the condition byte. PC is none of theirs.
 #![tactic(auto)]
 
-ghost use Rattle.std.specs.Prelude.{◌≡◌, ◌%◌};
+ghost use Rattle.std.specs.Prelude.{◌≡◌, ◌%◌, Ok, Err};
 ghost use Rattle.arith.specs.Widths.{bits_of};
 ghost use Rattle.arith.specs.Sums.{inc_of, dec_of};
-ghost use Rattle.refusal.specs.declared.Outcome.TheVariants.{Done, Refused};
 ghost use Rattle.registers.specs.Condition.{condition_of};
 ghost use Rattle.registers.specs.Parts.{part_of};
 ghost use Rattle.registers.specs.Lent.{lent};
@@ -17,32 +16,32 @@ ghost use Rattle.operate.specs.Results.{counted};
 ghost use Rattle.operate.specs.Operate.{stc_of, ldc_of, ccr_of, carried_of, adjusted_of, decimal_of, shift_of, unary_of};
 ghost use Rattle.operate.specs.MirrorLent.{Does, Operates, Marks, Replaces, Fills, deed, effect_in};
 
-use arith::{Adjust, Width};
-use refusal::{Outcome, Refusal};
+use arith::Width;
+use refusal::Refusal;
 use registers::Condition;
 
 // The condition byte after an instruction, and how it went. A refused one has written nothing.
 #[derive(Clone, Copy)]
 pub struct Deed {
     pub condition: Condition,
-    pub outcome: Outcome,
+    pub outcome: Result<(), Refusal>,
 }
 
 pub fn did(f: Condition) -> Deed
-    ensures { result ≡ deed f Done }
+    ensures { result ≡ deed f (Ok tt) }
 {
     Deed {
         condition: f,
-        outcome: Outcome::Done,
+        outcome: Ok(()),
     }
 }
 
 pub fn refused(f: Condition, x: Refusal) -> Deed
-    ensures { result ≡ deed f (Refused x) }
+    ensures { result ≡ deed f (Err x) }
 {
     Deed {
         condition: f,
-        outcome: Outcome::Refused(x),
+        outcome: Err(x),
     }
 }
 
@@ -253,7 +252,7 @@ pub fn exts(w: Width, er: &mut [u32; 8], d: u8, f: Condition) -> Condition
 pub fn stc(er: &mut [u32; 8], d: u8, f: Condition) -> Condition
     ensures { Does (stc_of d) er.old er.new f result }
 {
-    registers::put(Width::Byte, er, d, f.byte() as u32);
+    registers::put(Width::Byte, er, d, u32::from(u8::from(f)));
     f
 }
 
@@ -261,7 +260,7 @@ pub fn stc(er: &mut [u32; 8], d: u8, f: Condition) -> Condition
 fn condition(x: u32) -> Condition
     ensures { result ≡ condition_of (x % 256) }
 {
-    Condition::from_byte((x % 256) as u8)
+    Condition::from((x % 256) as u8)
 }
 
 // LDC from a byte register: all eight bits.
@@ -275,19 +274,19 @@ pub fn ldc_reg(er: &[u32; 8], s: u8) -> Condition
 pub fn orc(v: u32, f: Condition) -> Condition
     ensures { Marks (ccr_of Orc v) f result }
 {
-    condition(arith::logic::or(Width::Byte, f.byte() as u32, v).value)
+    condition(arith::logic::or(Width::Byte, u32::from(u8::from(f)), v).value)
 }
 
 pub fn xorc(v: u32, f: Condition) -> Condition
     ensures { Marks (ccr_of Xorc v) f result }
 {
-    condition(arith::logic::xor(Width::Byte, f.byte() as u32, v).value)
+    condition(arith::logic::xor(Width::Byte, u32::from(u8::from(f)), v).value)
 }
 
 pub fn andc(v: u32, f: Condition) -> Condition
     ensures { Marks (ccr_of Andc v) f result }
 {
-    condition(arith::logic::and(Width::Byte, f.byte() as u32, v).value)
+    condition(arith::logic::and(Width::Byte, u32::from(u8::from(f)), v).value)
 }
 
 pub fn ldc(v: u32) -> Condition
@@ -297,16 +296,16 @@ pub fn ldc(v: u32) -> Condition
 }
 
 // The row's value is added; where no row fits, refusal 7 at the instruction.
-fn adjusted(a: Adjust, x: u32, er: &mut [u32; 8], d: u8, pc: u32, f: Condition) -> Deed
+fn adjusted(a: Option<(u8, bool)>, x: u32, er: &mut [u32; 8], d: u8, pc: u32, f: Condition) -> Deed
     ensures { effect_in er.new pc result ≡ adjusted_of a x d (lent er.old pc f) }
 {
     match a {
-        Adjust::Adding(v, c) => {
+        Some((v, c)) => {
             let y = arith::mov(Width::Byte, x % 256 + v as u32);
             registers::put(Width::Byte, er, d, y.value);
             did(f.with_adjusted(y, c))
         }
-        Adjust::NoRow => refused(f, Refusal::NoAdjustRow(pc)),
+        None => refused(f, Refusal::NoAdjustRow(pc)),
     }
 }
 

@@ -1,6 +1,7 @@
 -- The promise: a run of the mode that keeps its pushed addresses, from a clear place, ends, fairly, within the place's largest total; and within any budget
 -- its states are never more. Over any machine whose steps go where paths go. Each step has a state or more, so what may still come falls.
 -- Assumes nothing.
+use Rattle.std.specs.Prelude.{Result, Ok, Err}
 use Rattle.std.proofs.Common.{◌≡◌, ℕ, zero, suc, ◌+◌, ◌-◌, ◌<◌, ◌≤◌, ◌⊎◌, List, [], ◌∷◌, length, sym, refl, subst, inl, inr, ⊎_elim, arith}
 use Rattle.refusal.specs.declared.Refusal.{Refusal}
 use Rattle.refusal.specs.declared.Refusal.TheVariants.{TooDeep, FetchOutside}
@@ -8,7 +9,7 @@ use Rattle.machine.specs.Machine.{Machine, elsewhere, none, more, ByData}
 use Rattle.machine.specs.Keeping as Keeping
 use Rattle.machine.specs.Keeping.{Keeps, keeps, Moves, went, called, came, home, at_elsewhere, last, keeping}
 use Rattle.paths.specs.declared.Flow.{Flow}
-use Rattle.paths.specs.declared.Flow.TheVariants.{Ends, Stop}
+use Rattle.paths.specs.declared.Flow.TheVariants.{Ends}
 use Rattle.paths.specs.Paths.{Leads, Enters, count_of, deep, ends, here, stop, Clear, Largest}
 use Rattle.paths.specs.Runs.{Ending, returned, stopped, left, Off, Run, returns, stops, leaves, Fair, Bounded}
 use Rattle.paths.proofs.Laws.{le_or}
@@ -21,8 +22,8 @@ eq_or a b = ⊎_elim (λ h. ⊎_elim (λ k. inl (omega arith)) (λ k. inr (λ e.
 
 -- a step at an instruction with the flow f: it returns, goes where f leads, enters what f enters and pushes where f leads, or is refused by its data. It has a
 -- state at least, and never more than f says. `Kept` is what every state of a run keeps
-pub data Stepped (M : Machine) (Kept : M.State → Type 0) (f : Flow) (s : M.State) : Type 0 where
-  back_home : {t : M.State} {n m : ℕ} → M.AtReturn s → ((k : ℕ) → M.Pushes s k → ⊥) → M.Does s t n → Kept t → f ≡ Ends m → 1 ≤ n → n ≤ m → Stepped M Kept f s
+pub data Stepped (M : Machine) (Kept : M.State → Type 0) (f : Result Flow Refusal) (s : M.State) : Type 0 where
+  back_home : {t : M.State} {n m : ℕ} → M.AtReturn s → ((k : ℕ) → M.Pushes s k → ⊥) → M.Does s t n → Kept t → f ≡ Ok (Ends m) → 1 ≤ n → n ≤ m → Stepped M Kept f s
   onward : {t : M.State} {n : ℕ} → (M.AtReturn s → ⊥) → ((k : ℕ) → M.Pushes s k → ⊥) → M.Does s t n → Kept t → ((q : ℕ) → Enters f q → ⊥) → Leads f (M.pc t) → 1 ≤ n → n ≤ count_of f → Stepped M Kept f s
   entered : {t : M.State} {k n : ℕ} → (M.AtReturn s → ⊥) → M.Pushes s k → M.Does s t n → Kept t → Leads f k → Enters f (M.pc t) → 1 ≤ n → n ≤ count_of f → Stepped M Kept f s
   by_data : {r : Refusal} → M.Refuses s r → ByData r → Stepped M Kept f s
@@ -36,8 +37,8 @@ record Ended (M : Machine) (s : M.State) (n : ℕ) : Type 0 where
   fair : Fair ending
   in_states : states ≤ n
 
-module _ (M : Machine) (O : OneStep M) (flow : ℕ → Flow) (len : ℕ) (outside : (p : ℕ) → len ≤ p → flow p ≡ Stop (FetchOutside p)) (Kept : M.State → Type 0)
-    (step : (s : M.State) → Kept s → ((r : Refusal) → flow (M.pc s) ≡ Stop r → ⊥) → Stepped M Kept (flow (M.pc s)) s) where
+module _ (M : Machine) (O : OneStep M) (flow : ℕ → Result Flow Refusal) (len : ℕ) (outside : (p : ℕ) → len ≤ p → flow p ≡ Err (FetchOutside p)) (Kept : M.State → Type 0)
+    (step : (s : M.State) → Kept s → ((r : Refusal) → flow (M.pc s) ≡ Err r → ⊥) → Stepped M Kept (flow (M.pc s)) s) where
   -- nothing that may still come has more than N states
   abbrev Owes : ℕ → ℕ → List ℕ → ℕ → Type 0
   Owes d p ks N = (m : ℕ) → Tail flow d p ks m → m ≤ N
@@ -79,7 +80,7 @@ module _ (M : Machine) (O : OneStep M) (flow : ℕ → Flow) (len : ℕ) (outsid
         let l = lighter N f o m in
         one_more (not_home s ks nr) (called ps (omega (arith, len8)) does) l.1 (next (N - n) d t (k ∷ ks) (omega (arith, l.1)) kt (fine_on flow m f) (omega (arith, len8)) l.0)
 
-    back : (d : ℕ) (ks : List ℕ) (t : M.State) (n m : ℕ) → M.AtReturn s → M.Does s t n → Kept t → flow (M.pc s) ≡ Ends m → 1 ≤ n → n ≤ m
+    back : (d : ℕ) (ks : List ℕ) (t : M.State) (n m : ℕ) → M.AtReturn s → M.Does s t n → Kept t → flow (M.pc s) ≡ Ok (Ends m) → 1 ≤ n → n ≤ m
         → Fine flow d (M.pc s) ks → d + length ks ≡ 8 → Owes d (M.pc s) ks N → Ended (keeping M) (keeps s ks) N
     back d [] t n m r does kt i one h f len8 o =
         record { steps = 0 + 1; states = 0 + n; ending = returned; run = returns none (last r) (home r does); fair = tt; in_states = omega (arith, o m (Owed.last (ends i))) }

@@ -1,12 +1,13 @@
 -- Laws of paths, over any listing.
 -- Assumes nothing.
+use Rattle.std.specs.Prelude.{Result, Ok, Err}
 use Rattle.std.proofs.Common.{◌≡◌, ℕ, suc, ◌+◌, ◌%◌, ◌<◌, ◌≤◌, min, max, cond, eqb, ◌⊎◌, sym, refl, subst, inl, inr, ⊎_elim, le_refl, le_antisymm, arith, ne_eqb}
 use native.Mathlib.Nat.{min-eq_left, min-eq_right, max-eq_left, max-eq_right}
 use native.Mathlib.Decide.{dec_le}
 use Rattle.refusal.specs.declared.Refusal.{Refusal}
 use Rattle.refusal.specs.declared.Refusal.TheVariants.{FetchOutside, NotUpward}
 use Rattle.paths.specs.declared.Flow.{Flow}
-use Rattle.paths.specs.declared.Flow.TheVariants.{Next, Jump, Either, Call, Ends, Stop}
+use Rattle.paths.specs.declared.Flow.TheVariants.{Next, Jump, Either, Call, Ends}
 use Rattle.paths.specs.Paths.{IsPlace, Leads, Enters, count_of, Forbidden, stop, back, deep, Open, Path, ends, goes, calls, Meets, here, later, into, Largest, Clear, Lowest, IsFigure, Over, Row, figure, over, refused}
 use Rattle.paths.specs.Levels.{Held, totals, bars}
 
@@ -18,50 +19,50 @@ le_or a b = go (dec_le a b)
     go (no h) = inr (omega arith)
 
 -- all that follows an instruction, which is no call, is n and t
-pub record Both (f : Flow) (n t : ℕ) : Type 0 where
+pub record Both (f : Result Flow Refusal) (n t : ℕ) : Type 0 where
   pub first : Leads f n
   pub second : Leads f t
   pub only : (q : ℕ) → Leads f q → (q ≡ n) ⊎ (q ≡ t)
   pub plain : (q : ℕ) → Enters f q → ⊥
 
-pub both_next : (n s : ℕ) → Both (Next n s) n n
+pub both_next : (n s : ℕ) → Both (Ok (Next n s)) n n
 both_next n s = record { first = refl; second = refl; only = λ q w. inl w; plain = λ q e. e }
 
-pub both_jump : (t s : ℕ) → Both (Jump t s) t t
+pub both_jump : (t s : ℕ) → Both (Ok (Jump t s)) t t
 both_jump t s = record { first = refl; second = refl; only = λ q w. inl w; plain = λ q e. e }
 
-pub both_either : (n t s : ℕ) → Both (Either n t s) n t
+pub both_either : (n t s : ℕ) → Both (Ok (Either n t s)) n t
 both_either n t s = record { first = inl refl; second = inr refl; only = λ q w. w; plain = λ q e. e }
 
 -- what a listing of `len` bytes keeps to: ways lead to places and calls enter places, what follows a call is above it, and an instruction has at most 32 states
-pub record Listing (flow : ℕ → Flow) (len : ℕ) : Type 0 where
+pub record Listing (flow : ℕ → Result Flow Refusal) (len : ℕ) : Type 0 where
   pub small : len ≤ 524288
   pub even_length : len % 2 ≡ 0
-  pub outside : (p : ℕ) → len ≤ p → flow p ≡ Stop (FetchOutside p)
+  pub outside : (p : ℕ) → len ≤ p → flow p ≡ Err (FetchOutside p)
   pub ways : (p q : ℕ) → IsPlace p → Leads (flow p) q → IsPlace q
   pub entries : (p t : ℕ) → IsPlace p → Enters (flow p) t → IsPlace t
   pub after_call : (p q t : ℕ) → IsPlace p → Enters (flow p) t → Leads (flow p) q → p < q
   pub few : (p : ℕ) → IsPlace p → count_of (flow p) ≤ 32
 
-module _ (flow : ℕ → Flow) where
+module _ (flow : ℕ → Result Flow Refusal) where
   -- ways of an allowed place go up
   pub up : {d p q : ℕ} → Open flow d p → Leads (flow p) q → p < q
   up {d} {p} {q} o w = ⊎_elim (λ h. absurd (o (NotUpward p) (back w h))) (λ h. h) (le_or q p)
 
   -- no way leaves a return, or a place with nothing to follow, and neither calls
-  pub no_way_ends : {p s : ℕ} → flow p ≡ Ends s → (q : ℕ) → Leads (flow p) q → ⊥
-  no_way_ends e q w = subst (λ (f : Flow). Leads f q) e w
+  pub no_way_ends : {p s : ℕ} → flow p ≡ Ok (Ends s) → (q : ℕ) → Leads (flow p) q → ⊥
+  no_way_ends e q w = subst (λ (f : Result Flow Refusal). Leads f q) e w
 
-  pub no_way_stop : {p : ℕ} {r : Refusal} → flow p ≡ Stop r → (q : ℕ) → Leads (flow p) q → ⊥
-  no_way_stop e q w = subst (λ (f : Flow). Leads f q) e w
+  pub no_way_stop : {p : ℕ} {r : Refusal} → flow p ≡ Err r → (q : ℕ) → Leads (flow p) q → ⊥
+  no_way_stop e q w = subst (λ (f : Result Flow Refusal). Leads f q) e w
 
-  pub no_call_ends : {p s : ℕ} → flow p ≡ Ends s → (t : ℕ) → Enters (flow p) t → ⊥
-  no_call_ends e t w = subst (λ (f : Flow). Enters f t) e w
+  pub no_call_ends : {p s : ℕ} → flow p ≡ Ok (Ends s) → (t : ℕ) → Enters (flow p) t → ⊥
+  no_call_ends e t w = subst (λ (f : Result Flow Refusal). Enters f t) e w
 
-  pub no_call_stop : {p : ℕ} {r : Refusal} → flow p ≡ Stop r → (t : ℕ) → Enters (flow p) t → ⊥
-  no_call_stop e t w = subst (λ (f : Flow). Enters f t) e w
+  pub no_call_stop : {p : ℕ} {r : Refusal} → flow p ≡ Err r → (t : ℕ) → Enters (flow p) t → ⊥
+  no_call_stop e t w = subst (λ (f : Result Flow Refusal). Enters f t) e w
 
-  pub ends_stop : {p s : ℕ} {r : Refusal} → flow p ≡ Ends s → flow p ≡ Stop r → ⊥
+  pub ends_stop : {p s : ℕ} {r : Refusal} → flow p ≡ Ok (Ends s) → flow p ≡ Err r → ⊥
   ends_stop e e' = let z : ◌≡◌ {A = ℕ} 0 1 = cc in omega arith
 
   pub largest_one : {d p n m : ℕ} → Largest flow d p n → Largest flow d p m → n ≡ m
@@ -115,22 +116,22 @@ module _ (flow : ℕ → Flow) where
   pub held_stop : {d p : ℕ} {r : Refusal} → Forbidden flow d p r → Held flow d p 0 p
   held_stop b = bars (record { met = here b; least = stop_least b })
 
-  pub clear_ends : {d p s : ℕ} → flow p ≡ Ends s → Clear flow d p
+  pub clear_ends : {d p s : ℕ} → flow p ≡ Ok (Ends s) → Clear flow d p
   clear_ends e f (here (stop e')) = ends_stop e e'
   clear_ends e f (here (back w h)) = no_way_ends e _ w
   clear_ends e f (here (deep t w)) = no_call_ends e t w
   clear_ends e f (later o w m) = no_way_ends e _ w
   clear_ends e f (into o w m) = no_call_ends e _ w
 
-  most_ends : {d p s : ℕ} → flow p ≡ Ends s → (m : ℕ) → Path flow d p m → m ≤ s
+  most_ends : {d p s : ℕ} → flow p ≡ Ok (Ends s) → (m : ℕ) → Path flow d p m → m ≤ s
   most_ends {d} {p} {s} e m (ends e') = let z : m ≡ s = cc in omega arith
   most_ends {d} {p} {s} e m (goes o ne w r) = absurd (no_way_ends e _ w)
   most_ends {d} {p} {s} e m (calls i r w o r') = absurd (no_way_ends e _ w)
 
-  pub largest_ends : {d p s : ℕ} → flow p ≡ Ends s → Largest flow d p s
+  pub largest_ends : {d p s : ℕ} → flow p ≡ Ok (Ends s) → Largest flow d p s
   largest_ends e = record { some = ends e; most = most_ends e }
 
-  pub held_ends : {d p s : ℕ} → flow p ≡ Ends s → Held flow d p (min s 1000000001) 16777215
+  pub held_ends : {d p s : ℕ} → flow p ≡ Ok (Ends s) → Held flow d p (min s 1000000001) 16777215
   held_ends e = totals (clear_ends e) (largest_ends e)
 
   -- clear places
@@ -205,12 +206,12 @@ module _ (flow : ℕ → Flow) where
       held_join low (bars {f = fa} w) (bars {f = fb} w') = bars_both (Meets flow d a) (Meets flow d b) low (λ g m. later o B.first m) (λ g m. later o B.second m) (join_only o) fa fb _ w.met w.least w'.met w'.least
 
   -- a call asks for the longest path of the routine that it enters
-  module _ {d p n t s : ℕ} (i : flow p ≡ Call n t s) (o : Open flow (suc d) p) where
+  module _ {d p n t s : ℕ} (i : flow p ≡ Ok (Call n t s)) (o : Open flow (suc d) p) where
     leads : Leads (flow p) n
-    leads = subst (λ (f : Flow). Leads f n) (sym i) refl
+    leads = subst (λ (f : Result Flow Refusal). Leads f n) (sym i) refl
 
     enters : Enters (flow p) t
-    enters = subst (λ (f : Flow). Enters f t) (sym i) refl
+    enters = subst (λ (f : Result Flow Refusal). Enters f t) (sym i) refl
 
     pub call_largest : {a b : ℕ} → Largest flow d t a → Largest flow (suc d) n b → Largest flow (suc d) p (count_of (flow p) + a + b)
     call_largest {a} {b} la lb = record { some = calls enters la.some leads o lb.some; most = most }
@@ -219,16 +220,16 @@ module _ (flow : ℕ → Flow) where
         most m (ends e) = absurd (let z : ◌≡◌ {A = ℕ} 0 1 = cc in omega arith)
         most m (goes o' ne w r) = absurd (ne t enters)
         most m (calls {q = q} {t = u} {n = y} {m = x} e r w o' r') =
-            let h : u ≡ t = subst (λ (f : Flow). Enters f u) i e in
-            let k : q ≡ n = subst (λ (f : Flow). Leads f q) i w in
+            let h : u ≡ t = subst (λ (f : Result Flow Refusal). Enters f u) i e in
+            let k : q ≡ n = subst (λ (f : Result Flow Refusal). Leads f q) i w in
             let l : x ≤ a = la.most x (subst (λ (v : ℕ). Path flow d v x) h r) in
             let l' : y ≤ b = lb.most y (subst (λ (v : ℕ). Path flow (suc d) v y) k r') in
             omega arith
 
     call_only : (g : ℕ) → Meets flow (suc d) p g → Meets flow d t g ⊎ Meets flow (suc d) n g
     call_only g (here k) = absurd (o _ k)
-    call_only g (later {q = q} o' w m) = inr (subst (λ (x : ℕ). Meets flow (suc d) x g) (subst (λ (f : Flow). Leads f q) i w) m)
-    call_only g (into {t = u} o' e m) = inl (subst (λ (x : ℕ). Meets flow d x g) (subst (λ (f : Flow). Enters f u) i e) m)
+    call_only g (later {q = q} o' w m) = inr (subst (λ (x : ℕ). Meets flow (suc d) x g) (subst (λ (f : Result Flow Refusal). Leads f q) i w) m)
+    call_only g (into {t = u} o' e m) = inl (subst (λ (x : ℕ). Meets flow d x g) (subst (λ (f : Result Flow Refusal). Enters f u) i e) m)
 
     -- so a call's row comes of the routine's, with a level less, and of what follows
     pub held_call : {na fa nb fb : ℕ} → ((g : ℕ) → Meets flow (suc d) p g → g < 16777215) → Held flow d t na fa → Held flow (suc d) n nb fb
@@ -241,7 +242,7 @@ module _ (flow : ℕ → Flow) where
     held_call low (bars {f = fa} w) (bars {f = fb} w') = bars_both (Meets flow d t) (Meets flow (suc d) n) low (λ g m. into o enters m) (λ g m. later o leads m) call_only fa fb _ w.met w.least w'.met w'.least
 
 -- over a good listing
-module _ (flow : ℕ → Flow) (len : ℕ) (L : Listing flow len) where
+module _ (flow : ℕ → Result Flow Refusal) (len : ℕ) (L : Listing flow len) where
   -- a place is forbidden by one refusal at most, whatever the levels left
   pub forbidden_one : {d d' p : ℕ} {r r' : Refusal} → IsPlace p → Forbidden flow d p r → Forbidden flow d' p r' → r ≡ r'
   forbidden_one z (stop e) (stop e') = cc

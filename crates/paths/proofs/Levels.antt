@@ -1,12 +1,13 @@
 -- What hangs on the levels left: a clear place's paths do not, so a table of rows with eight levels left has what each call costs.
 -- Assumes nothing.
+use Rattle.std.specs.Prelude.{Result}
 use Rattle.std.proofs.Common.{◌≡◌, ℕ, zero, suc, ◌+◌, refl, arith}
 use Rattle.refusal.specs.declared.Refusal.{Refusal}
 use Rattle.paths.specs.declared.Flow.{Flow}
 use Rattle.paths.specs.Paths.{Leads, Enters, count_of, Forbidden, stop, back, deep, Open, Path, ends, goes, calls, Meets, here, later, into, Largest, Clear}
 use Rattle.paths.proofs.Laws.{clear_open, clear_on, clear_into}
 
-module _ (flow : ℕ → Flow) where
+module _ (flow : ℕ → Result Flow Refusal) where
   -- what is forbidden with a level more is forbidden with one less
   less : {d p : ℕ} {r : Refusal} → Forbidden flow (suc d) p r → Forbidden flow d p r
   less (stop e) = stop e

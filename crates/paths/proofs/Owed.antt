@@ -1,13 +1,15 @@
 -- What a run that keeps the pushed addresses may still come to, over any listing: a path from here, and one from each kept address.
 -- Assumes nothing.
+use Rattle.std.specs.Prelude.{Result, Ok, Err}
 use Rattle.std.proofs.Common.{◌≡◌, ℕ, zero, suc, ◌+◌, ◌<◌, ◌≤◌, List, [], ◌∷◌, sym, refl, subst, inl, ⊎_elim, arith}
 use Rattle.refusal.specs.declared.Refusal.TheVariants.{TooDeep, FetchOutside}
+use Rattle.refusal.specs.declared.Refusal.{Refusal}
 use Rattle.paths.specs.declared.Flow.{Flow}
-use Rattle.paths.specs.declared.Flow.TheVariants.{Next, Jump, Either, Call, Ends, Stop}
+use Rattle.paths.specs.declared.Flow.TheVariants.{Next, Jump, Either, Call, Ends}
 use Rattle.paths.specs.Paths.{Leads, Enters, count_of, Forbidden, stop, deep, Open, Path, ends, goes, calls, here, Clear}
 use Rattle.paths.proofs.Laws.{le_or, up, clear_open, clear_on, clear_into}
 
-module _ (flow : ℕ → Flow) where
+module _ (flow : ℕ → Result Flow Refusal) where
   -- a clear place has a path, if what follows and what it enters have one
   from : (d p : ℕ) → Clear flow d p → ((q : ℕ) → Leads (flow p) q → (n : ℕ) × Path flow d q n)
       → ((e t : ℕ) → d ≡ suc e → Enters (flow p) t → (n : ℕ) × Path flow e t n) → (n : ℕ) × Path flow d p n
@@ -25,15 +27,15 @@ module _ (flow : ℕ → Flow) where
                 (calls e a.1 w (subst (λ (y : ℕ). Open flow y p) z (clear_open flow c)) (subst (λ (y : ℕ). Path flow y n b.0) z b.1)),
           )
 
-      at : (f : Flow) → flow p ≡ f → (n : ℕ) × Path flow d p n
-      at (Next n s) i = on' n (subst (λ (f : Flow). Leads f n) (sym i) refl) (λ t e. subst (λ (f : Flow). Enters f t) i e)
-      at (Jump n s) i = on' n (subst (λ (f : Flow). Leads f n) (sym i) refl) (λ t e. subst (λ (f : Flow). Enters f t) i e)
-      at (Either n t s) i = on' n (subst (λ (f : Flow). Leads f n) (sym i) (inl refl)) (λ t e. subst (λ (f : Flow). Enters f t) i e)
-      at (Call n t s) i = call d refl n t (subst (λ (f : Flow). Leads f n) (sym i) refl) (subst (λ (f : Flow). Enters f t) (sym i) refl)
-      at (Ends s) i = (s, ends i)
-      at (Stop r) i = absurd (c p (here (stop i)))
+      at : (f : Result Flow Refusal) → flow p ≡ f → (n : ℕ) × Path flow d p n
+      at (Ok (Next n s)) i = on' n (subst (λ (f : Result Flow Refusal). Leads f n) (sym i) refl) (λ t e. subst (λ (f : Result Flow Refusal). Enters f t) i e)
+      at (Ok (Jump n s)) i = on' n (subst (λ (f : Result Flow Refusal). Leads f n) (sym i) refl) (λ t e. subst (λ (f : Result Flow Refusal). Enters f t) i e)
+      at (Ok (Either n t s)) i = on' n (subst (λ (f : Result Flow Refusal). Leads f n) (sym i) (inl refl)) (λ t e. subst (λ (f : Result Flow Refusal). Enters f t) i e)
+      at (Ok (Call n t s)) i = call d refl n t (subst (λ (f : Result Flow Refusal). Leads f n) (sym i) refl) (subst (λ (f : Result Flow Refusal). Enters f t) (sym i) refl)
+      at (Ok (Ends s)) i = (s, ends i)
+      at (Err r) i = absurd (c p (here (stop i)))
 
-  module _ (len : ℕ) (outside : (p : ℕ) → len ≤ p → flow p ≡ Stop (FetchOutside p)) where
+  module _ (len : ℕ) (outside : (p : ℕ) → len ≤ p → flow p ≡ Err (FetchOutside p)) where
     inside : {d p : ℕ} → Clear flow d p → p < len
     inside {d} {p} c = ⊎_elim (λ h. absurd (c p (here (stop (outside p h))))) (λ h. h) (le_or len p)
 
@@ -54,7 +56,7 @@ module _ (flow : ℕ → Flow) where
   pub data Move : ℕ → ℕ → List ℕ → ℕ → ℕ → ℕ → List ℕ → Type 0 where
     went : {d p q n : ℕ} {ks : List ℕ} → ((t : ℕ) → Enters (flow p) t → ⊥) → Leads (flow p) q → n ≤ count_of (flow p) → Move d p ks n d q ks
     called : {d p q t n : ℕ} {ks : List ℕ} → Enters (flow p) t → Leads (flow p) q → n ≤ count_of (flow p) → Move (suc d) p ks n d t (q ∷ ks)
-    came : {d p r s n : ℕ} {ks : List ℕ} → flow p ≡ Ends s → n ≤ s → Move d p (r ∷ ks) n (suc d) r ks
+    came : {d p r s n : ℕ} {ks : List ℕ} → flow p ≡ Ok (Ends s) → n ≤ s → Move d p (r ∷ ks) n (suc d) r ks
 
   -- what may still come: a path from here, and one from each kept address
   pub data Tail : ℕ → ℕ → List ℕ → ℕ → Type 0 where
@@ -90,7 +92,7 @@ module _ (flow : ℕ → Flow) where
       (count_of (flow p) + a + b, before (count_of (flow p) + a) (λ x y. calls e r w (clear_open flow c) y) t, omega arith)
   back_over {m = m} c (came {s = s} i h) t = (s + m, then (ends i) t, omega arith)
 
-  module _ (len : ℕ) (outside : (p : ℕ) → len ≤ p → flow p ≡ Stop (FetchOutside p)) where
+  module _ (len : ℕ) (outside : (p : ℕ) → len ≤ p → flow p ≡ Err (FetchOutside p)) where
     pub some_tail : {d p : ℕ} {ks : List ℕ} → Fine d p ks → (m : ℕ) × Tail d p ks m
     some_tail {d} {p} (last c) = let x = clear_path len outside d p c in (x.0, last x.1)
     some_tail {d} {p} (then c f) = let x = clear_path len outside d p c in let y = some_tail f in (x.0 + y.0, then x.1 y.1)

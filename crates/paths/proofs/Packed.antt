@@ -1,13 +1,17 @@
 -- Packed rows, unpacked, are the rows of `MirrorRows`; and what is noted of a place is all that its row is reckoned from.
 -- Assumes nothing.
+use Rattle.std.specs.Prelude.{Result, Ok, Err}
 use Rattle.std.proofs.Common.{◌≡◌, ℕ, suc, ◌+◌, ◌-◌, ◌*◌, ◌/◌, ◌%◌, ◌^◌, ◌<◌, ◌≤◌, min, max, Bool, true, false, cond, ◌||◌, eqb, leb, List, get_or, sym, refl, ◌∙◌, inl, inr, ⊎_elim, arith, le-ltb, lt-ltb, ne_eqb}
+use Rattle.refusal.specs.declared.Refusal.{Refusal}
 use Rattle.paths.specs.declared.Reckoned.{Reckoned}
 use Rattle.paths.specs.declared.Flow.{Flow}
-use Rattle.paths.specs.declared.Flow.TheVariants.{Next, Jump, Either, Call, Ends, Stop}
+use Rattle.paths.specs.declared.Flow.TheVariants.{Next, Jump, Either, Call, Ends}
+use Rattle.paths.specs.declared.Kind.{Kind}
+use Rattle.paths.specs.declared.Kind.TheVariants.{Stops, Returns, Goes, Calls}
 use Rattle.paths.specs.Paths.{IsPlace, Leads, Enters, count_of}
 use Rattle.paths.specs.Levels.{HeldIs, LevelFrom}
 use Rattle.paths.specs.MirrorRows.{barred, unpacked_of, level_of, total_of, joined, called_of, upward_of, entered_of, reckoned_of}
-use Rattle.paths.specs.MirrorPacked.{packed_bar, packed_at, packed_total, packed_join, packed_call, packed_up, packed_in, packed_flow, notes_for, notes_of, kind_of, noted_of, plain_of}
+use Rattle.paths.specs.MirrorPacked.{packed_bar, packed_at, packed_total, packed_join, packed_call, packed_up, packed_in, packed_flow, number_of, kind_at, notes_for, notes_of, kind_of, noted_of, plain_of}
 use Rattle.paths.proofs.Laws.{le_or, Listing}
 use Rattle.paths.proofs.Rows.{row_reckoned}
 
@@ -95,25 +99,25 @@ module _ (len : ℕ) (table : List ℕ) (d p : ℕ) (inside : p < 16777215) wher
       go true = packs_bar p inside
       go false = packs_call s (packs_at len table (d - 1) t k) (packs_at len table d n h)
 
-  packs_flow : (f : Flow) → ((q : ℕ) → Leads f q → q < 16777215) → ((t : ℕ) → Enters f t → t < 16777215)
+  packs_flow : (f : Result Flow Refusal) → ((q : ℕ) → Leads f q → q < 16777215) → ((t : ℕ) → Enters f t → t < 16777215)
       → Packs (reckoned_of (level_of len table d) (level_of len table (d - 1)) d p f) (packed_flow (packed_at len table d) (packed_at len table (d - 1)) d p f)
   unfolding reckoned_of packed_flow
-  packs_flow (Next n s) w u = packs_up n n s (w n refl) (w n refl)
-  packs_flow (Jump t s) w u = packs_up t t s (w t refl) (w t refl)
-  packs_flow (Either n t s) w u = packs_up n t s (w n (inl refl)) (w t (inr refl))
-  packs_flow (Call n t s) w u = packs_in n t s (w n refl) (u t refl)
-  packs_flow (Ends s) w u = packs_figure (min s 1000000001) (omega arith)
-  packs_flow (Stop r) w u = packs_bar p inside
+  packs_flow (Ok (Next n s)) w u = packs_up n n s (w n refl) (w n refl)
+  packs_flow (Ok (Jump t s)) w u = packs_up t t s (w t refl) (w t refl)
+  packs_flow (Ok (Either n t s)) w u = packs_up n t s (w n (inl refl)) (w t (inr refl))
+  packs_flow (Ok (Call n t s)) w u = packs_in n t s (w n refl) (u t refl)
+  packs_flow (Ok (Ends s)) w u = packs_figure (min s 1000000001) (omega arith)
+  packs_flow (Err r) w u = packs_bar p inside
 
 -- what is noted
-plain_flow : (same less : ℕ → ℕ) (d p : ℕ) (f : Flow) → packed_flow same less d p (plain_of f) ≡ packed_flow same less d p f
+plain_flow : (same less : ℕ → ℕ) (d p : ℕ) (f : Result Flow Refusal) → packed_flow same less d p (plain_of f) ≡ packed_flow same less d p f
 unfolding packed_flow plain_of
-plain_flow same less d p (Next n s) = refl
-plain_flow same less d p (Jump t s) = refl
-plain_flow same less d p (Either n t s) = refl
-plain_flow same less d p (Call n t s) = refl
-plain_flow same less d p (Ends s) = refl
-plain_flow same less d p (Stop r) = refl
+plain_flow same less d p (Ok (Next n s)) = refl
+plain_flow same less d p (Ok (Jump t s)) = refl
+plain_flow same less d p (Ok (Either n t s)) = refl
+plain_flow same less d p (Ok (Call n t s)) = refl
+plain_flow same less d p (Ok (Ends s)) = refl
+plain_flow same less d p (Err r) = refl
 
 upper : (x : ℕ) → x * 4294967296 / 4294967296 ≡ x
 upper x = omega arith
@@ -124,27 +128,33 @@ place_of a b h = omega arith
 above_it : (a b : ℕ) → (a % 16777216 + b * 16777216) / 16777216 ≡ b
 above_it a b = omega arith
 
-noted_for : (kind n t s : ℕ) → n < 16777216 → t < 16777216 → s < 256 → noted_of ((notes_for kind n t s).to / 4294967296) ((notes_for kind n t s).on / 4294967296) ≡ kind_of kind n t s
+known : (kind : Kind) → kind_at (number_of kind) ≡ kind
+known Stops = refl
+known Returns = refl
+known Goes = refl
+known Calls = refl
+
+noted_for : (kind : Kind) (n t s : ℕ) → n < 16777216 → t < 16777216 → s < 256 → noted_of ((notes_for kind n t s).to / 4294967296) ((notes_for kind n t s).on / 4294967296) ≡ kind_of kind n t s
 unfolding noted_of notes_for
 noted_for kind n t s h k l =
     let e : s % 256 ≡ s = omega arith in
-    rw (e, upper (t % 16777216 + kind * 16777216), upper (n % 16777216 + s * 16777216), above_it t kind, place_of n s h, place_of t kind k, above_it n s)
+    rw (e, upper (t % 16777216 + number_of kind * 16777216), upper (n % 16777216 + s * 16777216), above_it t (number_of kind), known kind, place_of n s h, place_of t (number_of kind) k, above_it n s)
 
-noted_is : (f : Flow) → ((q : ℕ) → Leads f q → q < 16777216) → ((t : ℕ) → Enters f t → t < 16777216) → count_of f < 256
+noted_is : (f : Result Flow Refusal) → ((q : ℕ) → Leads f q → q < 16777216) → ((t : ℕ) → Enters f t → t < 16777216) → count_of f < 256
     → noted_of ((notes_of f).to / 4294967296) ((notes_of f).on / 4294967296) ≡ plain_of f
 unfolding notes_of plain_of kind_of
-noted_is (Next n s) w u h = noted_for 2 n n s (w n refl) (w n refl) h
-noted_is (Jump t s) w u h = noted_for 2 t t s (w t refl) (w t refl) h
-noted_is (Either n t s) w u h = noted_for 2 n t s (w n (inl refl)) (w t (inr refl)) h
-noted_is (Call n t s) w u h = noted_for 3 n t s (w n refl) (u t refl) h
-noted_is (Ends s) w u h = noted_for 1 0 0 s (omega arith) (omega arith) h
-noted_is (Stop r) w u h = noted_for 0 0 0 0 (omega arith) (omega arith) (omega arith)
+noted_is (Ok (Next n s)) w u h = noted_for Goes n n s (w n refl) (w n refl) h
+noted_is (Ok (Jump t s)) w u h = noted_for Goes t t s (w t refl) (w t refl) h
+noted_is (Ok (Either n t s)) w u h = noted_for Goes n t s (w n (inl refl)) (w t (inr refl)) h
+noted_is (Ok (Call n t s)) w u h = noted_for Calls n t s (w n refl) (u t refl) h
+noted_is (Ok (Ends s)) w u h = noted_for Returns 0 0 s (omega arith) (omega arith) h
+noted_is (Err r) w u h = noted_for Stops 0 0 0 (omega arith) (omega arith) (omega arith)
 
 -- a place is even, so it is not the largest number below 2^24
 place_in : {p : ℕ} → IsPlace p → p < 16777215
 place_in z = omega (arith, z.even, z.in_range)
 
-module _ (flow : ℕ → Flow) (len : ℕ) (L : Listing flow len) (p : ℕ) (z : IsPlace p) where
+module _ (flow : ℕ → Result Flow Refusal) (len : ℕ) (L : Listing flow len) (p : ℕ) (z : IsPlace p) where
   pub noted_flow : noted_of ((notes_of (flow p)).to / 4294967296) ((notes_of (flow p)).on / 4294967296) ≡ plain_of (flow p)
   noted_flow = noted_is (flow p) (λ q w. (L.ways p q z w).in_range) (λ t u. (L.entries p t z u).in_range) (omega (arith, L.few p z))
 

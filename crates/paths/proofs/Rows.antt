@@ -1,41 +1,42 @@
 -- What the code reckons is what `Paths` says of a place: its row, and where its longest way goes on.
 -- Assumes nothing.
+use Rattle.std.specs.Prelude.{Result, Ok, Err}
 use Rattle.std.proofs.Common.{◌≡◌, ℕ, zero, suc, ◌+◌, ◌-◌, ◌%◌, ◌^◌, ◌<◌, ◌≤◌, min, max, ◌⊎◌, List, get_or, sym, refl, subst, inl, inr, ⊎_elim, arith, le-ltb, lt-ltb, ne_eqb, le-leb}
 use borrow.Author.Tests.{lt-leb}
 use Rattle.refusal.specs.declared.Refusal.{Refusal}
 use Rattle.refusal.specs.declared.Refusal.TheVariants.{NotUpward, TooDeep, TooLong}
 use Rattle.paths.specs.declared.Reckoned.{Reckoned}
 use Rattle.paths.specs.declared.Flow.{Flow}
-use Rattle.paths.specs.declared.Flow.TheVariants.{Next, Jump, Either, Call, Ends, Stop}
+use Rattle.paths.specs.declared.Flow.TheVariants.{Next, Jump, Either, Call, Ends}
 use Rattle.paths.specs.Paths.{IsPlace, Leads, Enters, count_of, Forbidden, stop, back, deep, Open, Row, figure, over, refused, RowsFrom}
 use Rattle.paths.specs.Levels.{Held, totals, bars, HeldIs, LevelFrom}
 use Rattle.paths.specs.MirrorRows.{row_of, level_of, shown_of, total_of, joined, called_of, upward_of, entered_of, reckoned_of, why_of, turned_of, own_of}
 use Rattle.paths.proofs.Laws.{le_or, Both, both_next, both_jump, both_either, Listing, up, no_way_stop, no_call_stop, held_stop, held_ends, held_join, held_call, held_small, held_outside, row_outside, meets_in}
 
 -- a place is allowed if its ways go up, and a call is with a level left
-open_both : (flow : ℕ → Flow) {d p : ℕ} (n t : ℕ) → Both (flow p) n t → p < n → p < t → Open flow d p
+open_both : (flow : ℕ → Result Flow Refusal) {d p : ℕ} (n t : ℕ) → Both (flow p) n t → p < n → p < t → Open flow d p
 open_both flow n t B h k r (stop e) = no_way_stop flow e n B.first
 open_both flow n t B h k r (back {q = q} w l) = ⊎_elim (λ (e : q ≡ n). omega arith) (λ (e : q ≡ t). omega arith) (B.only q w)
 open_both flow n t B h k r (deep u e) = B.plain u e
 
 -- a forbidden place is forbidden by what the code says
-why_back : (q p : ℕ) (f : Flow) → ((t : ℕ) → Enters f t → ⊥) → Leads f q → why_of p f ≡ NotUpward p
+why_back : (q p : ℕ) (f : Result Flow Refusal) → ((t : ℕ) → Enters f t → ⊥) → Leads f q → why_of p f ≡ NotUpward p
 unfolding why_of
-why_back q p (Next n s) x w = refl
-why_back q p (Jump t s) x w = refl
-why_back q p (Either n t s) x w = refl
-why_back q p (Call n t s) x w = absurd (x t refl)
-why_back q p (Ends s) x w = refl
-why_back q p (Stop r) x w = absurd w
+why_back q p (Ok (Next n s)) x w = refl
+why_back q p (Ok (Jump t s)) x w = refl
+why_back q p (Ok (Either n t s)) x w = refl
+why_back q p (Ok (Call n t s)) x w = absurd (x t refl)
+why_back q p (Ok (Ends s)) x w = refl
+why_back q p (Err r) x w = absurd w
 
-why_deep : (t p : ℕ) (f : Flow) → Enters f t → why_of p f ≡ TooDeep p
+why_deep : (t p : ℕ) (f : Result Flow Refusal) → Enters f t → why_of p f ≡ TooDeep p
 unfolding why_of
-why_deep t p (Next n s) w = absurd w
-why_deep t p (Jump u s) w = absurd w
-why_deep t p (Either n u s) w = absurd w
-why_deep t p (Call n u s) w = refl
-why_deep t p (Ends s) w = absurd w
-why_deep t p (Stop r) w = absurd w
+why_deep t p (Ok (Next n s)) w = absurd w
+why_deep t p (Ok (Jump u s)) w = absurd w
+why_deep t p (Ok (Either n u s)) w = absurd w
+why_deep t p (Ok (Call n u s)) w = refl
+why_deep t p (Ok (Ends s)) w = absurd w
+why_deep t p (Err r) w = absurd w
 
 -- and so is the place of a row that has its own address
 turned_back : (p n t : ℕ) → (n ≤ p) ⊎ (t ≤ p) → turned_of p n t ≡ NotUpward p
@@ -47,27 +48,27 @@ turned_up : (p n t : ℕ) → p < n → p < t → turned_of p n t ≡ TooLong p
 unfolding turned_of
 turned_up p n t h k = simp (lt-leb n p h, lt-leb t p k)
 
-own_back : (q p : ℕ) (f : Flow) → ((t : ℕ) → Enters f t → ⊥) → Leads f q → q ≤ p → own_of p f ≡ NotUpward p
+own_back : (q p : ℕ) (f : Result Flow Refusal) → ((t : ℕ) → Enters f t → ⊥) → Leads f q → q ≤ p → own_of p f ≡ NotUpward p
 unfolding own_of
-own_back q p (Next n s) x w h = turned_back p n n (inl (omega arith))
-own_back q p (Jump t s) x w h = turned_back p t t (inl (omega arith))
-own_back q p (Either n t s) x (inl w) h = turned_back p n t (inl (omega arith))
-own_back q p (Either n t s) x (inr w) h = turned_back p n t (inr (omega arith))
-own_back q p (Call n t s) x w h = absurd (x t refl)
-own_back q p (Ends s) x w h = absurd w
-own_back q p (Stop r) x w h = absurd w
+own_back q p (Ok (Next n s)) x w h = turned_back p n n (inl (omega arith))
+own_back q p (Ok (Jump t s)) x w h = turned_back p t t (inl (omega arith))
+own_back q p (Ok (Either n t s)) x (inl w) h = turned_back p n t (inl (omega arith))
+own_back q p (Ok (Either n t s)) x (inr w) h = turned_back p n t (inr (omega arith))
+own_back q p (Ok (Call n t s)) x w h = absurd (x t refl)
+own_back q p (Ok (Ends s)) x w h = absurd w
+own_back q p (Err r) x w h = absurd w
 
-own_open : (p : ℕ) (f : Flow) → ((r : Refusal) → f ≡ Stop r → ⊥) → ((q : ℕ) → Leads f q → p < q) → own_of p f ≡ TooLong p
+own_open : (p : ℕ) (f : Result Flow Refusal) → ((r : Refusal) → f ≡ Err r → ⊥) → ((q : ℕ) → Leads f q → p < q) → own_of p f ≡ TooLong p
 unfolding own_of
-own_open p (Next n s) x w = turned_up p n n (w n refl) (w n refl)
-own_open p (Jump t s) x w = turned_up p t t (w t refl) (w t refl)
-own_open p (Either n t s) x w = turned_up p n t (w n (inl refl)) (w t (inr refl))
-own_open p (Call n t s) x w = refl
-own_open p (Ends s) x w = refl
-own_open p (Stop r) x w = absurd (x r refl)
+own_open p (Ok (Next n s)) x w = turned_up p n n (w n refl) (w n refl)
+own_open p (Ok (Jump t s)) x w = turned_up p t t (w t refl) (w t refl)
+own_open p (Ok (Either n t s)) x w = turned_up p n t (w n (inl refl)) (w t (inr refl))
+own_open p (Ok (Call n t s)) x w = refl
+own_open p (Ok (Ends s)) x w = refl
+own_open p (Err r) x w = absurd (x r refl)
 
-module _ (flow : ℕ → Flow) (len : ℕ) (L : Listing flow len) where
-  open_call : {d p n t s : ℕ} → IsPlace p → flow p ≡ Call n t s → Open flow (suc d) p
+module _ (flow : ℕ → Result Flow Refusal) (len : ℕ) (L : Listing flow len) where
+  open_call : {d p n t s : ℕ} → IsPlace p → flow p ≡ Ok (Call n t s) → Open flow (suc d) p
   open_call {p = p} {t = t} z i r (stop e) = no_call_stop flow e t (rw i refl)
   open_call {p = p} {t = t} z i r (back {q = q} w h) = omega (arith, L.after_call p q t z (rw i refl) w)
 
@@ -101,7 +102,7 @@ module _ (flow : ℕ → Flow) (len : ℕ) (L : Listing flow len) where
     unfolding upward_of
     row_upward n t T = ⊎_elim (λ h. simp (le-leb n p h) (held_stop flow (back T.first h))) (λ h. ⊎_elim (λ k. simp (lt-leb n p h, le-leb t p k) (held_stop flow (back T.second k))) (λ k. simp (lt-leb n p h, lt-leb t p k) (row_above n t T h k)) (le_or t p)) (le_or n p)
 
-    row_call : (x n t s : ℕ) → d ≡ x → flow p ≡ Call n t s → HeldIs flow d p (entered_of same less d p n t (count_of (flow p)))
+    row_call : (x n t s : ℕ) → d ≡ x → flow p ≡ Ok (Call n t s) → HeldIs flow d p (entered_of same less d p n t (count_of (flow p)))
     unfolding entered_of called_of total_of
     row_call zero n t s h i = rw h (held_stop flow (deep t (rw i refl)))
     row_call (suc x) n t s h i =
@@ -113,14 +114,14 @@ module _ (flow : ℕ → Flow) (len : ℕ) (L : Listing flow len) where
         let e₂ : (count_of (flow p) + ((less t).figure + (same n).figure)) % 2 ^ 64 ≡ count_of (flow p) + ((less t).figure + (same n).figure) = omega (arith, held_small flow a, held_small flow b, L.few p z) in
         rw h (simp (ne_eqb (suc x) 0 (omega arith), e₁, e₂) (held_call flow i (open_call z i) (λ g m. meets_in flow len L z m) a b))
 
-    row_flow : (f : Flow) → flow p ≡ f → HeldIs flow d p (reckoned_of same less d p f)
+    row_flow : (f : Result Flow Refusal) → flow p ≡ f → HeldIs flow d p (reckoned_of same less d p f)
     unfolding reckoned_of
-    row_flow (Next n s) e = rw e at (row_upward n n (rw e (both_next n s)))
-    row_flow (Jump t s) e = rw e at (row_upward t t (rw e (both_jump t s)))
-    row_flow (Either n t s) e = rw e at (row_upward n t (rw e (both_either n t s)))
-    row_flow (Call n t s) e = rw e at (row_call d n t s refl e)
-    row_flow (Ends s) e = held_ends flow e
-    row_flow (Stop r) e = held_stop flow (stop e)
+    row_flow (Ok (Next n s)) e = rw e at (row_upward n n (rw e (both_next n s)))
+    row_flow (Ok (Jump t s)) e = rw e at (row_upward t t (rw e (both_jump t s)))
+    row_flow (Ok (Either n t s)) e = rw e at (row_upward n t (rw e (both_either n t s)))
+    row_flow (Ok (Call n t s)) e = rw e at (row_call d n t s refl e)
+    row_flow (Ok (Ends s)) e = held_ends flow e
+    row_flow (Err r) e = held_stop flow (stop e)
 
     pub held_reckoned : HeldIs flow d p (reckoned_of same less d p (flow p))
     held_reckoned = row_flow (flow p) refl

@@ -1,13 +1,15 @@
 -- A table after a row is stored.
 -- Assumes nothing.
+use Rattle.std.specs.Prelude.{Result}
 use Rattle.std.proofs.Common.{◌≡◌, ℕ, suc, ◌+◌, ◌%◌, ◌<◌, ◌≤◌, ◌≢◌, List, length, get_or, set, sym, ◌∙◌, subst, ⊎_elim, arith, length-set, get_or-set_other, get_or-set_same}
+use Rattle.refusal.specs.declared.Refusal.{Refusal}
 use Rattle.paths.specs.declared.Flow.{Flow}
 use Rattle.paths.specs.Levels.{HeldIs, LevelFrom}
 use Rattle.paths.specs.MirrorRows.{unpacked_of}
 use Rattle.paths.proofs.Laws.{le_or}
 
 -- the packed row of p with d levels left
-module _ (flow : ℕ → Flow) (len : ℕ) (t : List ℕ) (d p x : ℕ) (even : p % 2 ≡ 0) where
+module _ (flow : ℕ → Result Flow Refusal) (len : ℕ) (t : List ℕ) (d p x : ℕ) (even : p % 2 ≡ 0) where
   abbrev pub kept : List ℕ
   kept = set t (p + d % 2) x
 

@@ -1,9 +1,12 @@
 -- A packed row from the packed rows that it hangs on, and what is noted of a place, as the code has them. Nothing to believe: `proofs/Packed.antt` shows that
 -- unpacked they are the rows of `MirrorRows`.
-use Rattle.std.specs.Prelude.{ℕ, ◌+◌, ◌-◌, ◌*◌, ◌/◌, ◌%◌, ◌^◌, min, max, cond, ◌||◌, List, ◌==◌, nat_le, nat_lt, slice_index}
+use Rattle.std.specs.Prelude.{ℕ, ◌+◌, ◌-◌, ◌*◌, ◌/◌, ◌%◌, ◌^◌, min, max, cond, ◌||◌, List, ◌==◌, nat_le, nat_lt, slice_index, Result, Ok, Err}
 use Rattle.refusal.specs.declared.Refusal.TheVariants.{NotUpward}
+use Rattle.refusal.specs.declared.Refusal.{Refusal}
 use Rattle.paths.specs.declared.Flow.{Flow}
-use Rattle.paths.specs.declared.Flow.TheVariants.{Next, Jump, Either, Call, Ends, Stop}
+use Rattle.paths.specs.declared.Flow.TheVariants.{Next, Jump, Either, Call, Ends}
+use Rattle.paths.specs.declared.Kind.{Kind}
+use Rattle.paths.specs.declared.Kind.TheVariants.{Stops, Returns, Goes, Calls}
 use Rattle.paths.specs.declared.Notes.{Notes}
 
 unfoldable pub packed_bar : ℕ → ℕ
@@ -31,37 +34,50 @@ module _ (same less : ℕ → ℕ) where
   unfoldable pub packed_in : ℕ → ℕ → ℕ → ℕ → ℕ → ℕ
   packed_in d p n t s = cond (d == 0) (packed_bar p) (packed_call s (less t) (same n))
 
-  unfoldable pub packed_flow : ℕ → ℕ → Flow → ℕ
-  packed_flow d p (Next n s) = packed_up p n n s
-  packed_flow d p (Jump t s) = packed_up p t t s
-  packed_flow d p (Either n t s) = packed_up p n t s
-  packed_flow d p (Call n t s) = packed_in d p n t s
-  packed_flow d p (Ends s) = min s 1000000001
-  packed_flow d p (Stop r) = packed_bar p
+  unfoldable pub packed_flow : ℕ → ℕ → Result Flow Refusal → ℕ
+  packed_flow d p (Ok (Next n s)) = packed_up p n n s
+  packed_flow d p (Ok (Jump t s)) = packed_up p t t s
+  packed_flow d p (Ok (Either n t s)) = packed_up p n t s
+  packed_flow d p (Ok (Call n t s)) = packed_in d p n t s
+  packed_flow d p (Ok (Ends s)) = min s 1000000001
+  packed_flow d p (Err r) = packed_bar p
 
--- what is noted of a place: a kind below 4, two places and its states
-unfoldable pub notes_for : ℕ → ℕ → ℕ → ℕ → Notes
-notes_for kind n t s = record { to = (t % 16777216 + kind * 16777216) * 4294967296; on = (n % 16777216 + s % 256 * 16777216) * 4294967296 }
+-- the number of a kind, and the kind of a number
+abbrev pub number_of : Kind → ℕ
+number_of Stops = 0
+number_of Returns = 1
+number_of Goes = 2
+number_of Calls = 3
 
-unfoldable pub notes_of : Flow → Notes
-notes_of (Next n s) = notes_for 2 n n s
-notes_of (Jump t s) = notes_for 2 t t s
-notes_of (Either n t s) = notes_for 2 n t s
-notes_of (Call n t s) = notes_for 3 n t s
-notes_of (Ends s) = notes_for 1 0 0 s
-notes_of (Stop r) = notes_for 0 0 0 0
+abbrev pub kind_at : ℕ → Kind
+kind_at n = cond (n == 0) Stops (cond (n == 1) Returns (cond (n == 2) Goes Calls))
+
+-- what is noted of a place: a kind, two places and its states
+unfoldable pub notes_for : Kind → ℕ → ℕ → ℕ → Notes
+notes_for kind n t s = record { to = (t % 16777216 + number_of kind * 16777216) * 4294967296; on = (n % 16777216 + s % 256 * 16777216) * 4294967296 }
+
+unfoldable pub notes_of : Result Flow Refusal → Notes
+notes_of (Ok (Next n s)) = notes_for Goes n n s
+notes_of (Ok (Jump t s)) = notes_for Goes t t s
+notes_of (Ok (Either n t s)) = notes_for Goes n t s
+notes_of (Ok (Call n t s)) = notes_for Calls n t s
+notes_of (Ok (Ends s)) = notes_for Returns 0 0 s
+notes_of (Err r) = notes_for Stops 0 0 0
 
 -- and what that tells, of the upper halves: all that rows are reckoned from
-unfoldable pub kind_of : ℕ → ℕ → ℕ → ℕ → Flow
-kind_of kind n t s = cond (kind == 0) (Stop (NotUpward 0)) (cond (kind == 1) (Ends s) (cond (kind == 2) (Either n t s) (Call n t s)))
+unfoldable pub kind_of : Kind → ℕ → ℕ → ℕ → Result Flow Refusal
+kind_of Stops n t s = Err (NotUpward 0)
+kind_of Returns n t s = Ok (Ends s)
+kind_of Goes n t s = Ok (Either n t s)
+kind_of Calls n t s = Ok (Call n t s)
 
-unfoldable pub noted_of : ℕ → ℕ → Flow
-noted_of to on = kind_of (to / 16777216) (on % 16777216) (to % 16777216) (on / 16777216)
+unfoldable pub noted_of : ℕ → ℕ → Result Flow Refusal
+noted_of to on = kind_of (kind_at (to / 16777216)) (on % 16777216) (to % 16777216) (on / 16777216)
 
-unfoldable pub plain_of : Flow → Flow
-plain_of (Next n s) = Either n n s
-plain_of (Jump t s) = Either t t s
-plain_of (Either n t s) = Either n t s
-plain_of (Call n t s) = Call n t s
-plain_of (Ends s) = Ends s
-plain_of (Stop r) = Stop (NotUpward 0)
+unfoldable pub plain_of : Result Flow Refusal → Result Flow Refusal
+plain_of (Ok (Next n s)) = Ok (Either n n s)
+plain_of (Ok (Jump t s)) = Ok (Either t t s)
+plain_of (Ok (Either n t s)) = Ok (Either n t s)
+plain_of (Ok (Call n t s)) = Ok (Call n t s)
+plain_of (Ok (Ends s)) = Ok (Ends s)
+plain_of (Err r) = Err (NotUpward 0)

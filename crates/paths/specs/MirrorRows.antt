@@ -1,13 +1,11 @@
 -- A row from the rows that it hangs on. Nothing to believe: `proofs/Rows.antt` shows that it is what `Paths` says, and `proofs/Packed.antt` that it is what the
 -- code finds.
-use Rattle.std.specs.Prelude.{ℕ, ◌+◌, ◌-◌, ◌%◌, ◌^◌, min, max, cond, ◌||◌, List, ◌==◌, nat_le, nat_lt, slice_index}
+use Rattle.std.specs.Prelude.{ℕ, ◌+◌, ◌-◌, ◌%◌, ◌^◌, min, max, cond, ◌||◌, List, ◌==◌, nat_le, nat_lt, slice_index, Result, Ok, Err, Option, Some, None}
 use Rattle.refusal.specs.declared.Refusal.{Refusal}
 use Rattle.refusal.specs.declared.Refusal.TheVariants.{NotUpward, TooDeep, TooLong}
 use Rattle.paths.specs.declared.Reckoned.{Reckoned}
 use Rattle.paths.specs.declared.Flow.{Flow}
-use Rattle.paths.specs.declared.Flow.TheVariants.{Next, Jump, Either, Call, Ends, Stop}
-use Rattle.paths.specs.declared.WayOn.{WayOn}
-use Rattle.paths.specs.declared.WayOn.TheVariants.{On, Home, NoWay}
+use Rattle.paths.specs.declared.Flow.TheVariants.{Next, Jump, Either, Call, Ends}
 
 abbrev pub barred : ℕ → Reckoned
 barred p = record { figure = 0; low = p }
@@ -47,43 +45,46 @@ module _ (same less : ℕ → Reckoned) where
   unfoldable pub entered_of : ℕ → ℕ → ℕ → ℕ → ℕ → Reckoned
   entered_of d p n t s = cond (d == 0) (barred p) (called_of s (less t) (same n))
 
-  unfoldable pub reckoned_of : ℕ → ℕ → Flow → Reckoned
-  reckoned_of d p (Next n s) = upward_of p n n s
-  reckoned_of d p (Jump t s) = upward_of p t t s
-  reckoned_of d p (Either n t s) = upward_of p n t s
-  reckoned_of d p (Call n t s) = entered_of d p n t s
-  reckoned_of d p (Ends s) = record { figure = min s 1000000001; low = 16777215 }
-  reckoned_of d p (Stop r) = barred p
+  unfoldable pub reckoned_of : ℕ → ℕ → Result Flow Refusal → Reckoned
+  reckoned_of d p (Ok (Next n s)) = upward_of p n n s
+  reckoned_of d p (Ok (Jump t s)) = upward_of p t t s
+  reckoned_of d p (Ok (Either n t s)) = upward_of p n t s
+  reckoned_of d p (Ok (Call n t s)) = entered_of d p n t s
+  reckoned_of d p (Ok (Ends s)) = record { figure = min s 1000000001; low = 16777215 }
+  reckoned_of d p (Err r) = barred p
 
 -- why a place is forbidden, if it is
-unfoldable pub why_of : ℕ → Flow → Refusal
-why_of p (Next n s) = NotUpward p
-why_of p (Jump t s) = NotUpward p
-why_of p (Either n t s) = NotUpward p
-why_of p (Call n t s) = TooDeep p
-why_of p (Ends s) = NotUpward p
-why_of p (Stop r) = r
+unfoldable pub why_of : ℕ → Result Flow Refusal → Refusal
+why_of p (Ok (Next n s)) = NotUpward p
+why_of p (Ok (Jump t s)) = NotUpward p
+why_of p (Ok (Either n t s)) = NotUpward p
+why_of p (Ok (Call n t s)) = TooDeep p
+why_of p (Ok (Ends s)) = NotUpward p
+why_of p (Err r) = r
 
 -- why a table has a place's own address in its row: it is forbidden with eight levels left, or its total is above 1,000,000,000
 unfoldable pub turned_of : ℕ → ℕ → ℕ → Refusal
 turned_of p n t = cond (nat_le n p || nat_le t p) (NotUpward p) (TooLong p)
 
-unfoldable pub own_of : ℕ → Flow → Refusal
-own_of p (Next n s) = turned_of p n n
-own_of p (Jump t s) = turned_of p t t
-own_of p (Either n t s) = turned_of p n t
-own_of p (Call n t s) = TooLong p
-own_of p (Ends s) = TooLong p
-own_of p (Stop r) = r
+unfoldable pub own_of : ℕ → Result Flow Refusal → Refusal
+own_of p (Ok (Next n s)) = turned_of p n n
+own_of p (Ok (Jump t s)) = turned_of p t t
+own_of p (Ok (Either n t s)) = turned_of p n t
+own_of p (Ok (Call n t s)) = TooLong p
+own_of p (Ok (Ends s)) = TooLong p
+own_of p (Err r) = r
 
--- where the longest way goes on
-unfoldable pub better_of : ℕ → List ℕ → ℕ → ℕ → WayOn
-better_of len table n t = cond (nat_lt (row_of len table n).figure (row_of len table t).figure) (On t) (On n)
+-- where the longest way goes on, or that it returns there
+unfoldable pub better_of : ℕ → List ℕ → ℕ → ℕ → ℕ
+better_of len table n t = cond (nat_lt (row_of len table n).figure (row_of len table t).figure) t n
 
-unfoldable pub onward_of : ℕ → List ℕ → Flow → WayOn
-onward_of len table (Next n s) = On n
-onward_of len table (Jump t s) = On t
-onward_of len table (Either n t s) = better_of len table n t
-onward_of len table (Call n t s) = On n
-onward_of len table (Ends s) = Home
-onward_of len table (Stop r) = NoWay r
+unfoldable pub toward_of : ℕ → List ℕ → Flow → Option ℕ
+toward_of len table (Next n s) = Some n
+toward_of len table (Jump t s) = Some t
+toward_of len table (Either n t s) = Some (better_of len table n t)
+toward_of len table (Call n t s) = Some n
+toward_of len table (Ends s) = None
+
+unfoldable pub onward_of : ℕ → List ℕ → Result Flow Refusal → Result (Option ℕ) Refusal
+onward_of len table (Ok f) = Ok (toward_of len table f)
+onward_of len table (Err r) = Err r

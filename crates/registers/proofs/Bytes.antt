@@ -1,16 +1,13 @@
 -- A condition byte and the byte it stands for are each other's inverse.
-use Prim.Native.Nat.{ℕ, zero, suc, ◌+◌, ◌*◌, ◌/◌, ◌%◌, ◌≤◌, ◌<◌}
+use Prim.Native.Nat.{ℕ, zero, suc, ◌+◌, ◌*◌, ◌/◌, ◌%◌, ◌<◌}
 use mathlib.Core.Path.{◌≡◌, refl}
 use mathlib.Core.Bool.{Bool, true, false}
 use native.Mathlib.Omega.{arith}
 use lib.Dec.{eqb}
 use Rattle.arith.specs.Widths.{num, low_bit}
+use Rattle.arith.proofs.Once.{num_le}
 use Rattle.registers.specs.declared.Condition.{Condition}
 use Rattle.registers.specs.Condition.{condition_of, byte_of}
-
-num_le : (b : Bool) → num b ≤ 1
-num_le true = omega arith
-num_le false = omega arith
 
 num_bit : (b : Bool) → eqb (num b) 1 ≡ b
 num_bit true = refl

@@ -9,7 +9,7 @@ ghost use Rattle.registers.specs.Lent.{part_in, put_in};
 use arith::{Counted, Moved, Shifted, Sum, Width};
 
 // The condition byte as its eight bits: each change of flags is then a record, and "the others stay" can be seen.
-#[derive(Clone, Copy)]
+#[derive(Clone, Copy, Debug, PartialEq, Eq)]
 pub struct Condition {
     pub i: bool,
     pub ui: bool,
@@ -38,9 +38,93 @@ impl Condition {
 
     pub const C: u8 = 0x01;
 
-    pub fn from_byte(b: u8) -> Condition
-        ensures { result ≡ condition_of b }
+    pub fn with_sum(self, s: Sum) -> Condition
+        ensures { result ≡ with_sum self s }
     {
+        Condition {
+            h: s.h,
+            n: s.n,
+            z: s.z,
+            v: s.v,
+            c: s.c,
+            ..self
+        }
+    }
+
+    // Z is that of a longer number, whose lower parts came before.
+    pub fn with_extended(self, s: Sum) -> Condition
+        ensures { result ≡ with_extended self s }
+    {
+        Condition {
+            h: s.h,
+            n: s.n,
+            z: self.z & s.z,
+            v: s.v,
+            c: s.c,
+            ..self
+        }
+    }
+
+    pub fn with_counted(self, s: Counted) -> Condition
+        ensures { result ≡ with_counted self s }
+    {
+        Condition {
+            n: s.n,
+            z: s.z,
+            v: s.v,
+            ..self
+        }
+    }
+
+    pub fn with_shifted(self, s: Shifted) -> Condition
+        ensures { result ≡ with_shifted self s }
+    {
+        Condition {
+            n: s.n,
+            z: s.z,
+            v: s.v,
+            c: s.c,
+            ..self
+        }
+    }
+
+    pub fn with_moved(self, s: Moved) -> Condition
+        ensures { result ≡ with_moved self s }
+    {
+        Condition {
+            n: s.n,
+            z: s.z,
+            v: false,
+            ..self
+        }
+    }
+
+    pub fn with_adjusted(self, s: Moved, c: bool) -> Condition
+        ensures { result ≡ with_adjusted self s c }
+    {
+        Condition {
+            n: s.n,
+            z: s.z,
+            c,
+            ..self
+        }
+    }
+
+    pub fn with_product(self, s: Moved) -> Condition
+        ensures { result ≡ with_product self s }
+    {
+        Condition {
+            n: s.n,
+            z: s.z,
+            ..self
+        }
+    }
+}
+
+impl From<u8> for Condition {
+    ghost from_gives = { λ b f. f ≡ condition_of b };
+
+    fn from(b: u8) -> Condition {
         Condition {
             i: b / Condition::I % 2 == 1,
             ui: b / Condition::UI % 2 == 1,
@@ -52,129 +136,24 @@ impl Condition {
             c: b / Condition::C % 2 == 1,
         }
     }
+}
 
-    pub fn byte(self) -> u8
-        ensures { result ≡ byte_of self }
-    {
-        let b = Condition::I as u64 * arith::number(self.i)
-            + Condition::UI as u64 * arith::number(self.ui)
-            + Condition::H as u64 * arith::number(self.h)
-            + Condition::U as u64 * arith::number(self.u)
-            + Condition::N as u64 * arith::number(self.n)
-            + Condition::Z as u64 * arith::number(self.z)
-            + Condition::V as u64 * arith::number(self.v)
-            + Condition::C as u64 * arith::number(self.c);
-        b as u8
-    }
+impl From<Condition> for u8 {
+    ghost from_gives = { λ f b. b ≡ byte_of f };
 
-    pub fn with_sum(self, s: Sum) -> Condition
-        ensures { result ≡ with_sum self s }
-    {
-        Condition {
-            i: self.i,
-            ui: self.ui,
-            h: s.h,
-            u: self.u,
-            n: s.n,
-            z: s.z,
-            v: s.v,
-            c: s.c,
-        }
-    }
-
-    // Z is that of a longer number, whose lower parts came before.
-    pub fn with_extended(self, s: Sum) -> Condition
-        ensures { result ≡ with_extended self s }
-    {
-        Condition {
-            i: self.i,
-            ui: self.ui,
-            h: s.h,
-            u: self.u,
-            n: s.n,
-            z: self.z & s.z,
-            v: s.v,
-            c: s.c,
-        }
-    }
-
-    pub fn with_counted(self, s: Counted) -> Condition
-        ensures { result ≡ with_counted self s }
-    {
-        Condition {
-            i: self.i,
-            ui: self.ui,
-            h: self.h,
-            u: self.u,
-            n: s.n,
-            z: s.z,
-            v: s.v,
-            c: self.c,
-        }
-    }
-
-    pub fn with_shifted(self, s: Shifted) -> Condition
-        ensures { result ≡ with_shifted self s }
-    {
-        Condition {
-            i: self.i,
-            ui: self.ui,
-            h: self.h,
-            u: self.u,
-            n: s.n,
-            z: s.z,
-            v: s.v,
-            c: s.c,
-        }
-    }
-
-    pub fn with_moved(self, s: Moved) -> Condition
-        ensures { result ≡ with_moved self s }
-    {
-        Condition {
-            i: self.i,
-            ui: self.ui,
-            h: self.h,
-            u: self.u,
-            n: s.n,
-            z: s.z,
-            v: false,
-            c: self.c,
-        }
-    }
-
-    pub fn with_adjusted(self, s: Moved, c: bool) -> Condition
-        ensures { result ≡ with_adjusted self s c }
-    {
-        Condition {
-            i: self.i,
-            ui: self.ui,
-            h: self.h,
-            u: self.u,
-            n: s.n,
-            z: s.z,
-            v: self.v,
-            c: c,
-        }
-    }
-
-    pub fn with_product(self, s: Moved) -> Condition
-        ensures { result ≡ with_product self s }
-    {
-        Condition {
-            i: self.i,
-            ui: self.ui,
-            h: self.h,
-            u: self.u,
-            n: s.n,
-            z: s.z,
-            v: self.v,
-            c: self.c,
-        }
+    fn from(f: Condition) -> u8 {
+        Condition::I * u8::from(f.i)
+            + Condition::UI * u8::from(f.ui)
+            + Condition::H * u8::from(f.h)
+            + Condition::U * u8::from(f.u)
+            + Condition::N * u8::from(f.n)
+            + Condition::Z * u8::from(f.z)
+            + Condition::V * u8::from(f.v)
+            + Condition::C * u8::from(f.c)
     }
 }
 
-#[derive(Clone, Copy)]
+#[derive(Clone, Copy, Debug, PartialEq, Eq)]
 pub struct Registers {
     pub er: [u32; 8],
     pub pc: u32,

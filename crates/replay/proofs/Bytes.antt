@@ -21,7 +21,7 @@ module _ (b : Board) (rom : List ℕ) where
   pub by_stage : (k : Standing) (ram : List ℕ) (x : ℕ) (g : Stage) (m : Moment) → k.stage ≡ g → m ≡ stage_taken b rom g x k ram → m ≡ byte_taken b rom (moment k ram) x
   by_stage k ram x g m e h = h ∙ ap (λ (s : Stage). stage_taken b rom s x k ram) (sym e)
 
-  stays : (g : Stage) (x : ℕ) (k : Standing) (ram : List ℕ) → over_of g ≡ true → stage_taken b rom g x k ram ≡ moment k ram
+  pub stays : (g : Stage) (x : ℕ) (k : Standing) (ram : List ℕ) → over_of g ≡ true → stage_taken b rom g x k ram ≡ moment k ram
   unfolding stage_taken
   stays Version x k ram h = no_true h
   stays (Records p) x k ram h = no_true h

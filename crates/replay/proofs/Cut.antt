@@ -1,4 +1,5 @@
 -- However a recording is cut, once the end is declared it is replayed as it is whole (document 02, W8). Assumes nothing.
+use Rattle.std.specs.Prelude.{Some}
 use mathlib.Core.Path.{◌≡◌, refl, sym, ◌∙◌, ap}
 use mathlib.Core.Bool.{true, false}
 use mathlib.Core.List.{List, [], ◌∷◌, ◌++◌}
@@ -10,7 +11,6 @@ use Rattle.replay.specs.declared.Report.TheVariants.{Halted}
 use Rattle.replay.specs.declared.Stage.{Stage}
 use Rattle.replay.specs.declared.Stage.TheVariants.{Version, Records, Told, Closed}
 use Rattle.replay.specs.declared.Standing.{Standing}
-use Rattle.replay.specs.declared.Said.TheVariants.{Final}
 use Rattle.replay.specs.Replay.{Moment, moment, byte_taken, ended, end_of, ended_of, closed, fed, begun, replay_of}
 use Rattle.replay.specs.Cuts.{Arrived, arrived, delivered, took, stage_arrived, deliver_of, deliveries, joined}
 use Rattle.replay.specs.MirrorReplay.{over_of}
@@ -34,7 +34,7 @@ module _ (b : Board) (rom : List ℕ) where
   by_stage Closed s d h = sym (h refl)
 
   -- what a delivery is, by whether the replay is over
-  pub late : (g : Stage) (s : Moment) (d : List ℕ) → over_of g ≡ true → stage_arrived b rom g s d ≡ arrived (delivered s.replay (Final (Halted ReplayEnded))) s.mem
+  pub late : (g : Stage) (s : Moment) (d : List ℕ) → over_of g ≡ true → stage_arrived b rom g s d ≡ arrived (delivered s.replay (Some (Halted ReplayEnded))) s.mem
   unfolding stage_arrived
   late Version s d h = no_true h
   late (Records p) s d h = no_true h
@@ -67,6 +67,6 @@ second_end k = refl
 
 -- an end after a difference or a refusal repeats its report, and a delivery after it is 20 and changes nothing
 module _ (b : Board) (rom : List ℕ) (s : Moment) (d : List ℕ) where
-  pub after_end : deliver_of b rom (moment (ended_of s.replay).replay s.mem) d ≡ arrived (delivered (ended_of s.replay).replay (Final (Halted ReplayEnded))) s.mem
+  pub after_end : deliver_of b rom (moment (ended_of s.replay).replay s.mem) d ≡ arrived (delivered (ended_of s.replay).replay (Some (Halted ReplayEnded))) s.mem
   unfolding ended_of stage_arrived
   after_end = refl

@@ -1,4 +1,5 @@
 -- A replay is the repeated step, and each record that agreed describes the moment before its step. Assumes nothing.
+use Rattle.std.specs.Prelude.{Result, Ok, Err}
 use Prim.Native.Nat.{ℕ, suc, ◌+◌, ◌*◌, ◌%◌, ◌^◌, ◌≤◌, ◌<◌}
 use mathlib.Core.Path.{◌≡◌, refl, sym, ◌∙◌, ap, subst}
 use mathlib.Core.Bool.{Bool, true, false, cond, ◌&&◌}
@@ -7,9 +8,8 @@ use native.Mathlib.Omega.{arith}
 use borrow.Author.Tests.{eqb-true, le-leb, ltb-true, ltb-false, ne_eqb}
 use lib.Dec.{eqb, ltb, leb}
 use lib.ListN.{length, get_or, take, drop}
+use Rattle.refusal.specs.declared.Refusal.{Refusal}
 use Rattle.refusal.specs.declared.Refusal.TheVariants.{BadBoard, BadVersion, BudgetTooLarge, BadLength}
-use Rattle.refusal.specs.declared.Outcome.{Outcome}
-use Rattle.refusal.specs.declared.Outcome.TheVariants.{Done, Refused}
 use Rattle.registers.specs.Condition.{byte_of}
 use Rattle.registers.specs.declared.Registers.{Registers}
 use Rattle.memory.specs.declared.Board.{Board}
@@ -111,7 +111,7 @@ module _ (b : Board) (rom : List ℕ) where
         → {i k : ℕ} {u : State} → i < c + 1 → Steps (processor b rom) Any s i k u → Describes (take 11 (drop (i * 11) h)) u.regs (m₀ + k)
     next each l none = let z : m₀ + 0 ≡ m₀ = omega arith in rw z described
     next {c} each {u = u} l (more {t = t'} {n = n'} {c = i} {m = k} through does' rest) =
-        let same : after (answered t'.regs n' Done) t'.mem ≡ after (answered t.regs n Done) t.mem = sym does' ∙ does in
+        let same : after (answered t'.regs n' (Ok tt)) t'.mem ≡ after (answered t.regs n (Ok tt)) t.mem = sym does' ∙ does in
         let p : t' ≡ t = ap (λ (a : After). state a.answer.regs a.mem) same in
         let o : n' ≡ n = ap (λ (a : After). a.answer.states) same in
         let w = subst (λ (x : State). Steps (processor b rom) Any x i k u) p rest in
@@ -148,14 +148,14 @@ module _ (b : Board) (rom : List ℕ) where
 
     module _ (h xs : List ℕ) (described : Describes (take 11 h) k.regs k.states) (tail : (i : ℕ) → drop ((i + 1) * 11) h ≡ drop (i * 11) xs)
         (rest : From (state did.answer.regs did.mem) on.steps on.states xs (fed b rom (moment on did.mem) xs)) where
-      stepped : (o : Outcome) → did.answer.outcome ≡ o → From (state k.regs ram) k.steps k.states h (fed b rom (went o did k) xs)
+      stepped : (o : Result (Unit {0}) Refusal) → did.answer.outcome ≡ o → From (state k.regs ram) k.steps k.states h (fed b rom (went o did k) xs)
       unfolding went
-      stepped Done e =
-          let does : did ≡ after (answered did.answer.regs did.answer.states Done) did.mem = ap (λ (o : Outcome). after (answered did.answer.regs did.answer.states o) did.mem) e in
+      stepped (Ok tt) e =
+          let does : did ≡ after (answered did.answer.regs did.answer.states (Ok tt)) did.mem = ap (λ (o : Result (Unit {0}) Refusal). after (answered did.answer.regs did.answer.states o) did.mem) e in
           let to : List ℕ → Moment = λ l. fed b rom (moment on did.mem) l in
           let counted = subst (λ (n : ℕ). From (state did.answer.regs did.mem) n (k.states + did.answer.states) xs (to xs)) on_steps (subst (λ (m : ℕ). From (state did.answer.regs did.mem) on.steps m xs (to xs)) on_states rest) in
           one_more (state k.regs ram) (state did.answer.regs did.mem) did.answer.states k.steps k.states h xs does described tail _ counted
-      stepped (Refused f) e =
+      stepped (Err f) e =
           let z = step_refused k.regs b rom ram f e in
           let p : did.answer.regs ≡ k.regs = ap (λ (a : After). a.answer.regs) z in
           let q : did.mem ≡ ram = ap (λ (a : After). a.mem) z in

@@ -1,4 +1,5 @@
 -- Records passed by a run beside them are taken byte by byte alike. Assumes nothing.
+use Rattle.std.specs.Prelude.{Result, Ok, Err}
 use Prim.Native.Nat.{ℕ, zero, suc, ◌+◌, ◌-◌, ◌*◌, ◌/◌, ◌%◌, ◌^◌, ◌≤◌, ◌<◌}
 use mathlib.Core.Path.{◌≡◌, refl, sym, ◌∙◌, ap}
 use mathlib.Core.Bool.{Bool, true, false, cond, not}
@@ -8,9 +9,8 @@ use borrow.Author.Tests.{eqb-true, ltb-true, le-ltb}
 use lib.Dec.{eqb, ltb}
 use lib.ListN.{length, get_or, drop}
 use lib.Seq.{drop-cons}
+use Rattle.refusal.specs.declared.Refusal.{Refusal}
 use Rattle.refusal.specs.declared.Refusal.TheVariants.{BadBoard}
-use Rattle.refusal.specs.declared.Outcome.{Outcome}
-use Rattle.refusal.specs.declared.Outcome.TheVariants.{Done, Refused}
 use Rattle.registers.specs.Condition.{byte_of}
 use Rattle.registers.specs.declared.Registers.{Registers}
 use Rattle.memory.specs.declared.Board.{Board}
@@ -117,14 +117,14 @@ module _ (b : Board) (rom xs : List ℕ) where
       unfolding compared taken
       stepped = rw (agreed.1, agreed.2, agreed.3)
 
-      gone : did.answer.outcome ≡ Done → went did.answer.outcome did k ≡ at did.answer.regs (steps + 1) (states + did.answer.states) did.mem
+      gone : did.answer.outcome ≡ Ok tt → went did.answer.outcome did k ≡ at did.answer.regs (steps + 1) (states + did.answer.states) did.mem
       unfolding went
       gone d =
           let n : (s₀ + steps) % 2 ^ 24 + 1 ≡ s₀ + (steps + 1) = omega arith in
           let m : states % 2 ^ 56 + did.answer.states ≡ states + did.answer.states = omega arith in
           rw (d, n, m)
 
-      through : (n : ℕ) (a : Ran) → did.answer.outcome ≡ Done → Same n did.mem did.answer.regs (steps + 1) (states + did.answer.states) a → Same (suc n) ram r steps states a
+      through : (n : ℕ) (a : Ran) → did.answer.outcome ≡ Ok tt → Same n did.mem did.answer.regs (steps + 1) (states + did.answer.states) a → Same (suc n) ram r steps states a
       through n a d f =
           let z : i + 11 ≡ (steps + 1) * 11 = omega arith in (
             matched ∙ (ap (λ (m : Moment). fed b rom m (drop (i + 11) xs)) (stepped ∙ gone d)
@@ -135,13 +135,13 @@ module _ (b : Board) (rom xs : List ℕ) where
     turn : (n : ℕ) (ram : List ℕ) (r : Registers) (steps states : ℕ) (few : s₀ + steps < 1000000) (long : steps * 11 + 11 ≤ length xs) (small : states < 2 ^ 56)
         → Same n (step_of b rom ram r).mem (step_of b rom ram r).answer.regs (steps + 1) (states + (step_of b rom ram r).answer.states)
         (along_from b rom 1 xs n (step_of b rom ram r).mem (step_of b rom ram r).answer.regs (steps + 1) (states + (step_of b rom ram r).answer.states))
-        → (t : Bool) → eqb r.pc 1 ≡ t → (u : Bool) → strays_of xs steps r.pc r.condition states ≡ u → (o : Outcome) → (step_of b rom ram r).answer.outcome ≡ o
+        → (t : Bool) → eqb r.pc 1 ≡ t → (u : Bool) → strays_of xs steps r.pc r.condition states ≡ u → (o : Result (Unit {0}) Refusal) → (step_of b rom ram r).answer.outcome ≡ o
         → Same (suc n) ram r steps states (along_from b rom 1 xs (suc n) ram r steps states)
     unfolding along_from
     turn n ram r steps states few long small f true e u g o d = rw e (here (suc n) ram r steps states AtStop)
     turn n ram r steps states few long small f false e true g o d = rw (e, g) (here (suc n) ram r steps states AtStop)
-    turn n ram r steps states few long small f false e false g Done d = rw (e, g, d) (through ram r steps states few long small g n (along_from b rom 1 xs n (step_of b rom ram r).mem (step_of b rom ram r).answer.regs (steps + 1) (states + (step_of b rom ram r).answer.states)) d f)
-    turn n ram r steps states few long small f false e false g (Refused x) d =
+    turn n ram r steps states few long small f false e false g (Ok tt) d = rw (e, g, d) (through ram r steps states few long small g n (along_from b rom 1 xs n (step_of b rom ram r).mem (step_of b rom ram r).answer.regs (steps + 1) (states + (step_of b rom ram r).answer.states)) d f)
+    turn n ram r steps states few long small f false e false g (Err x) d =
         let m : (step_of b rom ram r).mem ≡ ram = ap (λ (a : After). a.mem) (step_refused r b rom ram x d) in
         rw (e, g, d, m) (here (suc n) ram r steps states (Halted x))
 

@@ -1,13 +1,13 @@
 -- Eleven bytes of a recording are one record. Assumes nothing.
+use Rattle.std.specs.Prelude.{Result, Ok, Err}
 use Prim.Native.Nat.{ℕ, ◌<◌}
 use mathlib.Core.Path.{◌≡◌, refl, ◌∙◌, ap}
 use mathlib.Core.Bool.{Bool, true, false, cond}
 use mathlib.Core.List.{List, ◌∷◌}
 use lib.Dec.{eqb}
 use borrow.Author.Tests.{lt-leb}
+use Rattle.refusal.specs.declared.Refusal.{Refusal}
 use Rattle.refusal.specs.declared.Refusal.TheVariants.{BadLength}
-use Rattle.refusal.specs.declared.Outcome.{Outcome}
-use Rattle.refusal.specs.declared.Outcome.TheVariants.{Done, Refused}
 use Rattle.step.specs.Step.{After, step_of}
 use Rattle.memory.specs.declared.Board.{Board}
 use Rattle.replay.specs.declared.Part.{Part}
@@ -19,10 +19,10 @@ use Rattle.replay.specs.Replay.{Moment, moment, part, nothing, longer, grown, st
 use Rattle.replay.proofs.Bytes.{told_stays}
 
 -- what is compared, and the step after it, don't look at the stage
-went_same : (o : Outcome) (s : After) (k : Standing) (g : Stage) → went o s (staged k g) ≡ went o s k
+went_same : (o : Result (Unit {0}) Refusal) (s : After) (k : Standing) (g : Stage) → went o s (staged k g) ≡ went o s k
 unfolding went
-went_same Done s k g = refl
-went_same (Refused f) s k g = refl
+went_same (Ok tt) s k g = refl
+went_same (Err f) s k g = refl
 
 pub compared_same : (b : Board) (rom : List ℕ) (p : Part) (k : Standing) (g : Stage) (ram : List ℕ) → compared b rom p (staged k g) ram ≡ compared b rom p k ram
 unfolding compared taken

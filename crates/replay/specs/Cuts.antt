@@ -1,22 +1,21 @@
 -- Recordings that arrive in cuts (document 02, W8): deliveries are taken in turn, the replay carried in a value and the memories untouched between.
-use Rattle.std.specs.Prelude.{ℕ, List, [], ◌∷◌, ◌++◌}
+use Rattle.std.specs.Prelude.{ℕ, List, [], ◌∷◌, ◌++◌, Option, Some, None}
+use Rattle.replay.specs.declared.Report.{Report}
 use Rattle.refusal.specs.declared.Refusal.TheVariants.{ReplayEnded}
 use Rattle.memory.specs.declared.Board.{Board}
 use Rattle.replay.specs.declared.Report.TheVariants.{Halted}
 use Rattle.replay.specs.declared.Stage.{Stage}
 use Rattle.replay.specs.declared.Stage.TheVariants.{Version, Records, Told, Closed}
 use Rattle.replay.specs.declared.Standing.{Standing}
-use Rattle.replay.specs.declared.Said.{Said}
-use Rattle.replay.specs.declared.Said.TheVariants.{More, Final}
 use Rattle.replay.specs.declared.Delivered.{Delivered}
 use Rattle.replay.specs.Replay.{Moment, moment, fed}
 
 -- what a delivery came to: a difference or a refusal is said at once; else more may come, and a missing end is no matter yet
-unfoldable pub said_of : Stage → Said
-said_of Version = More
-said_of (Records p) = More
-said_of (Told t) = Final t
-said_of Closed = Final (Halted ReplayEnded)
+unfoldable pub said_of : Stage → Option Report
+said_of Version = None
+said_of (Records p) = None
+said_of (Told t) = Some t
+said_of Closed = Some (Halted ReplayEnded)
 
 -- a delivery's answer, and working memory after it
 pub record Arrived : Type 0 where
@@ -26,7 +25,7 @@ pub record Arrived : Type 0 where
 abbrev pub arrived : Delivered → List ℕ → Arrived
 arrived a m = record { answer = a; mem = m }
 
-abbrev pub delivered : Standing → Said → Delivered
+abbrev pub delivered : Standing → Option Report → Delivered
 delivered k s = record { replay = k; said = s }
 
 module _ (b : Board) (rom : List ℕ) where
@@ -37,8 +36,8 @@ module _ (b : Board) (rom : List ℕ) where
   unfoldable pub stage_arrived : Stage → Moment → List ℕ → Arrived
   stage_arrived Version s bytes = took (fed b rom s bytes)
   stage_arrived (Records p) s bytes = took (fed b rom s bytes)
-  stage_arrived (Told t) s bytes = arrived (delivered s.replay (Final (Halted ReplayEnded))) s.mem
-  stage_arrived Closed s bytes = arrived (delivered s.replay (Final (Halted ReplayEnded))) s.mem
+  stage_arrived (Told t) s bytes = arrived (delivered s.replay (Some (Halted ReplayEnded))) s.mem
+  stage_arrived Closed s bytes = arrived (delivered s.replay (Some (Halted ReplayEnded))) s.mem
 
   abbrev pub deliver_of : Moment → List ℕ → Arrived
   deliver_of s bytes = stage_arrived s.replay.stage s bytes

@@ -1,10 +1,9 @@
 -- Replay against a recording (document 02, W7). It is taken byte by byte, so that where it is cut can't matter (W8).
 -- A recording: version byte 1, then records of eleven bytes: a two-byte length, 9; four bytes PC; the condition byte; four bytes of states since the start;
 -- upper byte first. A record describes the moment before its instruction.
-use Rattle.std.specs.Prelude.{ℕ, ◌+◌, ◌*◌, ◌%◌, ◌^◌, cond, ◌&&◌, List, [], ◌∷◌, eqb, ltb, leb}
+use Rattle.std.specs.Prelude.{ℕ, ◌+◌, ◌*◌, ◌%◌, ◌^◌, cond, ◌&&◌, List, [], ◌∷◌, eqb, ltb, leb, Result, Ok, Err}
+use Rattle.refusal.specs.declared.Refusal.{Refusal}
 use Rattle.refusal.specs.declared.Refusal.TheVariants.{BadBoard, BudgetTooLarge, BadVersion, BadLength, Unfinished, ReplayEnded}
-use Rattle.refusal.specs.declared.Outcome.{Outcome}
-use Rattle.refusal.specs.declared.Outcome.TheVariants.{Done, Refused}
 use Rattle.registers.specs.Condition.{byte_of}
 use Rattle.registers.specs.declared.Registers.{Registers}
 use Rattle.memory.specs.declared.Board.{Board}
@@ -71,9 +70,9 @@ abbrev pub begins : ℕ → ℕ
 begins steps = steps % 2 ^ 24 * 11 + 1
 
 -- a step after a record that agreed; a refused one ends the replay and leaves registers and working memory (`step_of`)
-unfoldable pub went : Outcome → After → Standing → Moment
-went Done s k = moment (standing s.answer.regs (more k.steps) (k.states % 2 ^ 56 + s.answer.states) (Records nothing)) s.mem
-went (Refused f) s k = moment (standing s.answer.regs k.steps k.states (Told (Halted f))) s.mem
+unfoldable pub went : Result (Unit {0}) Refusal → After → Standing → Moment
+went (Ok tt) s k = moment (standing s.answer.regs (more k.steps) (k.states % 2 ^ 56 + s.answer.states) (Records nothing)) s.mem
+went (Err f) s k = moment (standing s.answer.regs k.steps k.states (Told (Halted f))) s.mem
 
 -- the version byte
 unfoldable pub first_of : ℕ → Standing → Standing

@@ -4,14 +4,16 @@
 ghost use Rattle.std.specs.Prelude.{◌≡◌, ◌*◌, ◌%◌, ◌^◌, ◌≤◌, ◌<◌};
 ghost use Rattle.replay.specs.Cuts.{said_of, arrived, deliver_of};
 ghost use Rattle.replay.specs.MirrorReplay.{over_of, fresh_of, ahead_of, missing_of, passed_of};
-ghost use Rattle.replay.specs.Replay.{field_number, byte_taken, first_of, nothing, longer, grown, begins, ended, end_of, ended_of, moment, staged, taken, compared, held, stage_taken, fed, begun, replayed, replay_of};
+ghost use Rattle.replay.specs.Replay.{field_number, byte_taken, first_of, nothing, grown, begins, ended, end_of, ended_of, moment, staged, taken, compared, held, stage_taken, fed, begun, replayed, replay_of};
 
 use memory::Board;
-use refusal::{Outcome, Refusal};
+use refusal::Refusal;
 use registers::Registers;
+use run::longer_by;
 
-// What is read of the next record: how many of its bytes, and its numbers so far.
-#[derive(Clone, Copy)]
+// What is read of the next record: how many of its bytes, and its numbers so far. These five are told to C (host/h8.h, "A REPLAY BETWEEN TWO CALLS",
+// `standing_of`), so they are kept and not the bytes.
+#[derive(Clone, Copy, PartialEq, Eq)]
 pub struct Part {
     pub count: u32,
     pub size: u32,
@@ -20,24 +22,33 @@ pub struct Part {
     pub states: u32,
 }
 
-// The fields of a record, in the order in which they are compared.
+impl Part {
+    pub fn none() -> Part
+        ensures { result ≡ nothing }
+    {
+        Part {
+            count: 0,
+            size: 0,
+            pc: 0,
+            condition: 0,
+            states: 0,
+        }
+    }
+}
+
+// The fields of a record, in the order in which they are compared, numbered as host/h8.h has them.
 #[derive(Clone, Copy)]
 pub enum Field {
-    OfPc,
+    OfPc = 1,
     OfCondition,
     OfStates,
 }
 
 impl Field {
-    // From 1 on, as host/h8.h has them.
     pub fn number(self) -> u32
         ensures { result ≡ field_number self }
     {
-        match self {
-            Field::OfPc => 1,
-            Field::OfCondition => 2,
-            Field::OfStates => 3,
-        }
+        self as u32
     }
 }
 
@@ -71,62 +82,41 @@ pub struct Ended {
     pub report: Report,
 }
 
-// What a delivery came to.
-#[derive(Clone, Copy)]
-pub enum Said {
-    More,
-    Final(Report),
-}
-
 #[derive(Clone, Copy)]
 pub struct Delivered {
     pub replay: Standing,
-    pub said: Said,
-}
-
-fn longer_by(n: u32, x: u8) -> u32
-    ensures { result ≡ longer n x }
-{
-    n % 16777216 * 256 + x as u32
+    pub said: Option<Report>,
 }
 
 fn grow(p: Part, x: u8) -> Part
     ensures { result ≡ grown p x }
 {
-    let n = p.count % 16777216 + 1;
+    let count = p.count % 16777216 + 1;
     if p.count < 2 {
         return Part {
-            count: n,
+            count,
             size: longer_by(p.size, x),
-            pc: p.pc,
-            condition: p.condition,
-            states: p.states,
+            ..p
         };
     }
     if p.count < 6 {
         return Part {
-            count: n,
-            size: p.size,
+            count,
             pc: longer_by(p.pc, x),
-            condition: p.condition,
-            states: p.states,
+            ..p
         };
     }
     if p.count < 7 {
         return Part {
-            count: n,
-            size: p.size,
-            pc: p.pc,
+            count,
             condition: x,
-            states: p.states,
+            ..p
         };
     }
     Part {
-        count: n,
-        size: p.size,
-        pc: p.pc,
-        condition: p.condition,
+        count,
         states: longer_by(p.states, x),
+        ..p
     }
 }
 
@@ -141,44 +131,23 @@ fn begin_of(steps: u32) -> u32
 fn at(k: Standing, stage: Stage) -> Standing
     ensures { result ≡ staged k stage }
 {
-    let q = k.regs;
-    Standing {
-        regs: q,
-        steps: k.steps,
-        states: k.states,
-        stage: stage,
-    }
-}
-
-fn none() -> Part
-    ensures { result ≡ nothing }
-{
-    Part {
-        count: 0,
-        size: 0,
-        pc: 0,
-        condition: 0,
-        states: 0,
-    }
+    Standing { stage, ..k }
 }
 
 // A step after a record that agreed.
 fn step_on(k: Standing, b: Board, rom: &[u8], ram: &mut [u8]) -> Standing
     ensures { moment result ram.new ≡ taken b rom.now k ram.old }
 {
-    let r = k.regs;
-    let a = run::single(b, rom, ram, r);
-    let q = a.regs;
-    let o = a.outcome;
-    match o {
-        Outcome::Done => Standing {
-            regs: q,
+    let a = run::single(b, rom, ram, k.regs);
+    match a.outcome {
+        Ok(()) => Standing {
+            regs: a.regs,
             steps: k.steps % 16777216 + 1,
             states: k.states % 72057594037927936 + a.states as u64,
-            stage: Stage::Records(none()),
+            stage: Stage::Records(Part::none()),
         },
-        Outcome::Refused(f) => Standing {
-            regs: q,
+        Err(f) => Standing {
+            regs: a.regs,
             steps: k.steps,
             states: k.states,
             stage: Stage::Told(Report::Halted(f)),
@@ -191,7 +160,7 @@ fn compare(p: Part, k: Standing, b: Board, rom: &[u8], ram: &mut [u8]) -> Standi
 {
     let r = k.regs;
     let f = r.condition;
-    let byte = f.byte();
+    let byte = u8::from(f);
     let states = p.states as u64;
     if p.pc != r.pc {
         return at(k, Stage::Told(Report::Differs(Field::OfPc)));
@@ -238,7 +207,7 @@ fn first_byte(x: u8, k: Standing) -> Standing
     ensures { result ≡ first_of x k }
 {
     if x == 1 {
-        return at(k, Stage::Records(none()));
+        return at(k, Stage::Records(Part::none()));
     }
     at(k, Stage::Told(Report::Halted(Refusal::BadVersion)))
 }
@@ -246,12 +215,10 @@ fn first_byte(x: u8, k: Standing) -> Standing
 fn byte_taken(k: Standing, x: u8, b: Board, rom: &[u8], ram: &mut [u8]) -> Standing
     ensures { moment result ram.new ≡ byte_taken b rom.now (moment k ram.old) x }
 {
-    let g = k.stage;
-    match g {
+    match k.stage {
         Stage::Version => first_byte(x, k),
         Stage::Records(p) => record_byte(p, x, k, b, rom, ram),
-        Stage::Told(_) => k,
-        Stage::Closed => k,
+        Stage::Told(_) | Stage::Closed => k,
     }
 }
 
@@ -259,12 +226,7 @@ fn byte_taken(k: Standing, x: u8, b: Board, rom: &[u8], ram: &mut [u8]) -> Stand
 fn over(g: Stage) -> bool
     ensures { result ≡ over_of g }
 {
-    match g {
-        Stage::Version => false,
-        Stage::Records(_) => false,
-        Stage::Told(_) => true,
-        Stage::Closed => true,
-    }
+    matches!(g, Stage::Told(_) | Stage::Closed)
 }
 
 // Bytes of the recording one by one; after it is told they are passed over.
@@ -272,14 +234,11 @@ fn one_by_one(k: Standing, b: Board, rom: &[u8], ram: &mut [u8], bytes: &[u8]) -
     ensures { moment result ram.new ≡ fed b rom.now (moment k ram.old) bytes.now }
 {
     let mut q = k;
-    let mut i = 0;
-    while i < bytes.len() {
-        let g = q.stage;
-        if over(g) {
+    for &x in bytes {
+        if over(q.stage) {
             break;
         }
-        q = byte_taken(q, bytes[i], b, rom, ram);
-        i += 1;
+        q = byte_taken(q, x, b, rom, ram);
     }
     q
 }
@@ -289,12 +248,8 @@ fn fresh(g: Stage) -> bool
     ensures { result ≡ fresh_of g }
 {
     match g {
-        Stage::Version => false,
-        Stage::Records(p) => {
-            (p.count == 0) & (p.size == 0) & (p.pc == 0) & (p.condition == 0) & (p.states == 0)
-        }
-        Stage::Told(_) => false,
-        Stage::Closed => false,
+        Stage::Records(p) => p == Part::none(),
+        Stage::Version | Stage::Told(_) | Stage::Closed => false,
     }
 }
 
@@ -303,14 +258,20 @@ fn passed(k: Standing, b: Board, rom: &[u8], ram: &mut [u8], bytes: &[u8]) -> St
     requires { (k.steps ≤ 1000000) × (k.states < 4294967296) }
     ensures { moment result ram.new ≡ passed_of b rom.now k ram.old bytes.now }
 {
-    let r = k.regs;
-    let a = run::along(b, rom, ram, r, 1000000 - k.steps, bytes, k.states as u32);
-    let q = a.regs;
+    let a = run::along(
+        b,
+        rom,
+        ram,
+        k.regs,
+        1000000 - k.steps,
+        bytes,
+        k.states as u32,
+    );
     Standing {
-        regs: q,
+        regs: a.regs,
         steps: k.steps + a.steps,
         states: a.states,
-        stage: Stage::Records(none()),
+        stage: Stage::Records(Part::none()),
     }
 }
 
@@ -318,9 +279,8 @@ fn passed(k: Standing, b: Board, rom: &[u8], ram: &mut [u8], bytes: &[u8]) -> St
 fn from_record(k: Standing, b: Board, rom: &[u8], ram: &mut [u8], bytes: &[u8]) -> Standing
     ensures { moment result ram.new ≡ fed b rom.now (moment k ram.old) bytes.now }
 {
-    let g = k.stage;
     let steps = k.steps;
-    let quick = fresh(g) & (steps <= 1000000) & (k.states < 4294967296);
+    let quick = fresh(k.stage) & (steps <= 1000000) & (k.states < 4294967296);
     if quick {
         let q = passed(k, b, rom, ram, bytes);
         let i = (q.steps - steps) as usize * 11;
@@ -336,8 +296,7 @@ fn ahead(g: Stage) -> usize
     match g {
         Stage::Version => 1,
         Stage::Records(p) => ((11 - p.count % 11) % 11) as usize,
-        Stage::Told(_) => 0,
-        Stage::Closed => 0,
+        Stage::Told(_) | Stage::Closed => 0,
     }
 }
 
@@ -356,8 +315,7 @@ fn missing(g: Stage, n: usize) -> usize
 pub fn feed(k: Standing, b: Board, rom: &[u8], ram: &mut [u8], bytes: &[u8]) -> Standing
     ensures { moment result ram.new ≡ fed b rom.now (moment k ram.old) bytes.now }
 {
-    let g = k.stage;
-    let m = missing(g, bytes.len());
+    let m = missing(k.stage, bytes.len());
     let q = one_by_one(k, b, rom, ram, &bytes[..m]);
     from_record(q, b, rom, ram, &bytes[m..])
 }
@@ -402,23 +360,21 @@ fn report_of(g: Stage, steps: u32) -> Report
 pub fn end(k: Standing) -> Ended
     ensures { result ≡ ended_of k }
 {
-    let g = k.stage;
-    let t = report_of(g, k.steps);
     Ended {
         replay: at(k, Stage::Closed),
-        report: t,
+        report: report_of(k.stage, k.steps),
     }
 }
 
 // What a stage says before the end is declared.
-pub fn said_of(g: Stage) -> Said
+#[tactic(auto, unfolding(crate::specs::Cuts::said_of))]
+pub fn said_of(g: Stage) -> Option<Report>
     ensures { result ≡ said_of g }
 {
     match g {
-        Stage::Version => Said::More,
-        Stage::Records(_) => Said::More,
-        Stage::Told(t) => Said::Final(t),
-        Stage::Closed => Said::Final(Report::Halted(Refusal::ReplayEnded)),
+        Stage::Version | Stage::Records(_) => None,
+        Stage::Told(t) => Some(t),
+        Stage::Closed => Some(Report::Halted(Refusal::ReplayEnded)),
     }
 }
 
@@ -426,17 +382,15 @@ pub fn said_of(g: Stage) -> Said
 pub fn deliver(k: Standing, b: Board, rom: &[u8], ram: &mut [u8], bytes: &[u8]) -> Delivered
     ensures { arrived result ram.new ≡ deliver_of b rom.now (moment k ram.old) bytes.now }
 {
-    let g = k.stage;
-    let late = over(g);
+    let late = over(k.stage);
     if late {
         return Delivered {
             replay: k,
-            said: Said::Final(Report::Halted(Refusal::ReplayEnded)),
+            said: Some(Report::Halted(Refusal::ReplayEnded)),
         };
     }
     let q = feed(k, b, rom, ram, bytes);
-    let h = q.stage;
-    let s = said_of(h);
+    let s = said_of(q.stage);
     Delivered { replay: q, said: s }
 }
 

@@ -1,4 +1,4 @@
-pub mod Kept
+pub mod Addresses
 pub mod Calls
 pub mod Turns
 pub mod Loop

@@ -1,4 +1,5 @@
 -- A run of the mode on a right board is the repeated step of `keeping`. Assumes nothing.
+use Rattle.std.specs.Prelude.{Result, Ok, Err}
 use Prim.Native.Nat.{ℕ, zero, suc, ◌+◌, ◌≤◌}
 use mathlib.Core.Path.{◌≡◌, refl, sym, ap, ◌∙◌}
 use mathlib.Core.Bool.{Bool, true, false, cond, ◌&&◌}
@@ -9,16 +10,12 @@ use lib.Dec.{ltb, eqb}
 use lib.ListN.{length, drop}
 use borrow.Author.Tests.{eqb-true, eqb-false, ltb-true, ltb-false, le-ltb}
 use Rattle.refusal.specs.declared.Refusal.{Refusal}
-use Rattle.refusal.specs.declared.Outcome.{Outcome}
-use Rattle.refusal.specs.declared.Outcome.TheVariants.{Done, Refused}
 use Rattle.registers.specs.declared.Registers.{Registers}
 use Rattle.memory.specs.Board.{good_board}
 use Rattle.memory.specs.declared.Board.{Board}
 use Rattle.codes.specs.States.{goes_of}
 use Rattle.codes.specs.declared.Goes.{Goes}
 use Rattle.codes.specs.declared.Goes.TheVariants.{Onward, Branches, Jumps, CallsNear, Calls, Returns}
-use Rattle.codes.specs.declared.Decoded.{Decoded}
-use Rattle.codes.specs.declared.Decoded.TheVariants.{Code, NoCode}
 use Rattle.codes.specs.declared.Instruction.{Instruction}
 use Rattle.flow.specs.Targets.{next_of}
 use Rattle.decoder.specs.MirrorDecode.{decode_of}
@@ -28,10 +25,14 @@ use Rattle.step.specs.Step.{After, after, answered, good_pc, step_of}
 use Rattle.step.specs.Processor.{State, Calling, processor}
 use Rattle.step.proofs.Laws.{step_refused}
 use Rattle.run.specs.Repeated.{state}
-use Rattle.routine.specs.Routine.{Routined, routined, told, in_order_of, Turn, on, leaves, pushing, returning, turn_by, turn_of, taken, onward, routine_from, routine_of}
+use Rattle.routine.specs.Routine.{Routined, routined, told, kept_of, Turn, on, leaves, pushing, returning, turn_by, turn_of, taken, onward, routine_from, routine_of}
 use Rattle.routine.specs.Repeated.{Before, RunsTo, stopped, spent, halted, ninth_met, elsewhere_met, returned, Repeated}
 use Rattle.routine.specs.declared.Ending.{Ending}
 use Rattle.routine.specs.declared.Ending.TheVariants.{AtStop, Spent, Halted, Returned, Ninth, Elsewhere}
+
+abbrev goes_in : Result (Instruction × ℕ) Refusal → Goes
+goes_in (Ok (i, l)) = goes_of i
+goes_in (Err f) = Onward
 
 module _ (b : Board) (rom : List ℕ) (stop : ℕ) where
   abbrev P : Machine
@@ -43,8 +44,7 @@ module _ (b : Board) (rom : List ℕ) (stop : ℕ) where
   -- from r and ram with ks kept and `left` steps of the budget left, after `steps` steps with `states` states
   record From (left : ℕ) (ram : List ℕ) (r : Registers) (ks : List ℕ) (steps states : ℕ) (a : Routined) : Type 0 where
     xs : List ℕ
-    in_order : a.answer.kept ≡ in_order_of xs
-    counted : a.answer.count ≡ length xs
+    in_order : a.answer.kept ≡ kept_of xs
     c : ℕ
     m : ℕ
     count : a.answer.steps ≡ steps + c
@@ -70,7 +70,7 @@ module _ (b : Board) (rom : List ℕ) (stop : ℕ) where
   at_once : (left : ℕ) (ram : List ℕ) (r : Registers) (ks : List ℕ) (steps states : ℕ) (why : Ending)
       → RunsTo M stop left (keeps (state r ram) ks) 0 0 (keeps (state r ram) ks) why → From left ram r ks steps states (routined (told r ks steps states why) ram)
   at_once left ram r ks steps states why e =
-      record { xs = ks; in_order = refl; counted = refl; c = 0; m = 0; count = omega arith; sum = omega arith; led = e }
+      record { xs = ks; in_order = refl; c = 0; m = 0; count = omega arith; sum = omega arith; led = e }
 
   module _ (n : ℕ) (ram : List ℕ) (r : Registers) (steps states : ℕ) (away : r.pc ≡ stop → ⊥) where
     abbrev S : After
@@ -88,7 +88,6 @@ module _ (b : Board) (rom : List ℕ) (stop : ℕ) where
         record {
           xs = f.xs;
           in_order = f.in_order;
-          counted = f.counted;
           c = f.c + 1;
           m = S.answer.states + f.m;
           count = omega (arith, f.count);
@@ -103,18 +102,18 @@ module _ (b : Board) (rom : List ℕ) (stop : ℕ) where
         (routined (told S.answer.regs ks (steps + 1) (states + S.answer.states) Returned) S.mem)
         (λ why. routined (told r ks steps states why) ram)
 
-    module _ (o : S.answer.outcome ≡ Done)
+    module _ (o : S.answer.outcome ≡ Ok tt)
         (rest : (xs : List ℕ) → From n S.mem S.answer.regs xs (steps + 1) (states + S.answer.states) (routine_from b rom stop n S.mem S.answer.regs xs (steps + 1) (states + S.answer.states))) where
       does : P.Does here there S.answer.states
-      does = ap (λ (x : Outcome). after (answered S.answer.regs S.answer.states x) S.mem) o
+      does = ap (λ (x : Result (Unit {0}) Refusal). after (answered S.answer.regs S.answer.states x) S.mem) o
 
       plain : (ks : List ℕ) → ((k : ℕ) → P.Pushes here k → ⊥) → (P.AtReturn here → ⊥) → From (suc n) ram r ks steps states (after_turn ks (on ks))
       unfolding taken
       plain ks no_push no_return = one_more ks ks _ (λ h. no_return (home_returns h)) (went no_push no_return does) (rest ks)
 
-      module _ (i : Instruction) (l : ℕ) (d : decode_of r.pc (drop r.pc rom) ≡ Code i l) where
-        same : (i' : Instruction) (l' : ℕ) → decode_of r.pc (drop r.pc rom) ≡ Code i' l' → goes_of i' ≡ goes_of i
-        same i' l' e = let h : i' ≡ i = cc in ap goes_of h
+      module _ (i : Instruction) (l : ℕ) (d : decode_of r.pc (drop r.pc rom) ≡ Ok (i, l)) where
+        same : (i' : Instruction) (l' : ℕ) → decode_of r.pc (drop r.pc rom) ≡ Ok (i', l') → goes_of i' ≡ goes_of i
+        same i' l' e = ap goes_in (sym e ∙ d)
 
         no_push : (g : Goes) → goes_of i ≡ g → (Calling g → ⊥) → (k : ℕ) → P.Pushes here k → ⊥
         no_push g h isnt k (i', l', e, q, z) = isnt (rw (same i' l' e ∙ h) at q)
@@ -146,7 +145,6 @@ module _ (b : Board) (rom : List ℕ) (stop : ℕ) where
             record {
               xs = [];
               in_order = refl;
-              counted = refl;
               c = 0 + 1;
               m = 0 + S.answer.states;
               count = omega arith;
@@ -164,20 +162,20 @@ module _ (b : Board) (rom : List ℕ) (stop : ℕ) where
         by_goes (Calls x) h ks = calls (Calls x) h tt (λ e. let z : ◌≡◌ {A = ℕ} 0 1 = cc in omega arith) ks _ refl
         by_goes Returns h ks = comes h ks
 
-      nothing : (f : Refusal) → decode_of r.pc (drop r.pc rom) ≡ NoCode f → (i : Instruction) (l : ℕ) → decode_of r.pc (drop r.pc rom) ≡ Code i l → ⊥
+      nothing : (f : Refusal) → decode_of r.pc (drop r.pc rom) ≡ Err f → (i : Instruction) (l : ℕ) → decode_of r.pc (drop r.pc rom) ≡ Ok (i, l) → ⊥
       nothing f d i l e = let z : ◌≡◌ {A = ℕ} 0 1 = cc in omega arith
 
-      by_decoded : (ks : List ℕ) (x : Decoded) → decode_of r.pc (drop r.pc rom) ≡ x → From (suc n) ram r ks steps states (after_turn ks (turn_of x r.pc ks S.answer.regs.pc))
+      by_decoded : (ks : List ℕ) (x : Result (Instruction × ℕ) Refusal) → decode_of r.pc (drop r.pc rom) ≡ x → From (suc n) ram r ks steps states (after_turn ks (turn_of x r.pc ks S.answer.regs.pc))
       unfolding turn_of
-      by_decoded ks (Code i l) d = by_goes i l d (goes_of i) refl ks
-      by_decoded ks (NoCode f) d = plain ks (λ k (i, l, e, q, z). nothing f d i l e) (λ (i, l, e, q). nothing f d i l e)
+      by_decoded ks (Ok (i, l)) d = by_goes i l d (goes_of i) refl ks
+      by_decoded ks (Err f) d = plain ks (λ k (i, l, e, q, z). nothing f d i l e) (λ (i, l, e, q). nothing f d i l e)
 
     turn : (ks : List ℕ)
         → ((xs : List ℕ) → From n S.mem S.answer.regs xs (steps + 1) (states + S.answer.states) (routine_from b rom stop n S.mem S.answer.regs xs (steps + 1) (states + S.answer.states)))
-        → eqb r.pc stop ≡ false → (x : Outcome) → S.answer.outcome ≡ x → From (suc n) ram r ks steps states (routine_from b rom stop (suc n) ram r ks steps states)
+        → eqb r.pc stop ≡ false → (x : Result (Unit {0}) Refusal) → S.answer.outcome ≡ x → From (suc n) ram r ks steps states (routine_from b rom stop (suc n) ram r ks steps states)
     unfolding routine_from onward
-    turn ks rest h Done o = rw (h, o) (by_decoded o rest ks _ refl)
-    turn ks rest h (Refused f) o = rw (h, o) (at_once (suc n) ram r ks steps states (Halted f) (halted none away (omega arith) (step_refused r b rom ram f o)))
+    turn ks rest h (Ok tt) o = rw (h, o) (by_decoded o rest ks _ refl)
+    turn ks rest h (Err f) o = rw (h, o) (at_once (suc n) ram r ks steps states (Halted f) (halted none away (omega arith) (step_refused r b rom ram f o)))
 
   start : (left : ℕ) (ram : List ℕ) (r : Registers) (ks : List ℕ) (steps states : ℕ) → eqb r.pc stop ≡ true
       → From left ram r ks steps states (routine_from b rom stop left ram r ks steps states)
@@ -212,4 +210,4 @@ module _ (b : Board) (rom : List ℕ) (stop : ℕ) where
       whole {a} f =
           let x : f.c ≡ a.answer.steps = omega (arith, f.count) in
           let y : f.m ≡ a.answer.states = omega (arith, f.sum) in
-          record { ks = f.xs; in_order = f.in_order; counted = f.counted; led = rw (x, y) at f.led }
+          record { ks = f.xs; in_order = f.in_order; led = rw (x, y) at f.led }

@@ -1,5 +1,5 @@
 -- A run of the mode read as the repeated step of `keeping`: so many steps with so many states lead from the start, with none kept, to where it ended.
-use Rattle.std.specs.Prelude.{ℕ, ◌+◌, ◌<◌, ◌≡◌, List, [], length}
+use Rattle.std.specs.Prelude.{ℕ, ◌+◌, ◌<◌, ◌≡◌, List, []}
 use Rattle.refusal.specs.declared.Refusal.{Refusal}
 use Rattle.registers.specs.declared.Registers.{Registers}
 use Rattle.memory.specs.declared.Board.{Board}
@@ -7,7 +7,7 @@ use Rattle.machine.specs.Machine.{Machine, Steps, ninth, elsewhere}
 use Rattle.machine.specs.Keeping.{keeps, keeping}
 use Rattle.step.specs.Processor.{processor}
 use Rattle.run.specs.Repeated.{state}
-use Rattle.routine.specs.Routine.{Routined, in_order_of}
+use Rattle.routine.specs.Routine.{Routined, kept_of}
 use Rattle.routine.specs.declared.Ending.{Ending}
 use Rattle.routine.specs.declared.Ending.TheVariants.{AtStop, Spent, Halted, Returned, Ninth, Elsewhere}
 
@@ -36,6 +36,5 @@ pub data RunsTo (M : Machine) (stop budget : ℕ) (s : M.State) : ℕ → ℕ �
 -- the answer's addresses are those that the mode keeps
 pub record Repeated (b : Board) (rom ram : List ℕ) (r : Registers) (stop budget : ℕ) (a : Routined) : Type 0 where
   pub ks : List ℕ
-  pub in_order : a.answer.kept ≡ in_order_of ks
-  pub counted : a.answer.count ≡ length ks
+  pub in_order : a.answer.kept ≡ kept_of ks
   pub led : RunsTo (keeping (processor b rom)) stop budget (keeps (state r ram) []) a.answer.steps a.answer.states (keeps (state a.answer.regs a.mem) ks) a.answer.why

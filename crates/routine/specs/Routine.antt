@@ -1,29 +1,31 @@
 -- The run mode of document 02, W9: "it keeps up to eight pushed addresses and ends, unexecuted, at a ninth or at a return elsewhere than to the
 -- address kept last (a further ending) if that step isn't refused; a return to that address takes it off, and the run returns when a return completes
 -- with none kept".
-use Rattle.std.specs.Prelude.{ℕ, zero, suc, ◌+◌, cond, ◌&&◌, List, [], ◌∷◌, ltb, eqb, length, set, drop}
+use Rattle.std.specs.Prelude.{ℕ, zero, suc, ◌+◌, cond, ◌&&◌, List, [], ◌∷◌, ltb, eqb, length, set, drop, Result, Ok, Err}
+use Rattle.refusal.specs.declared.Refusal.{Refusal}
+use Rattle.codes.specs.declared.Instruction.{Instruction}
 use Rattle.refusal.specs.declared.Refusal.TheVariants.{BadBoard, BudgetTooLarge}
-use Rattle.refusal.specs.declared.Outcome.{Outcome}
-use Rattle.refusal.specs.declared.Outcome.TheVariants.{Done, Refused}
 use Rattle.registers.specs.declared.Registers.{Registers}
 use Rattle.memory.specs.Board.{good_board}
 use Rattle.memory.specs.declared.Board.{Board}
 use Rattle.codes.specs.States.{goes_of}
 use Rattle.codes.specs.declared.Goes.{Goes}
 use Rattle.codes.specs.declared.Goes.TheVariants.{Onward, Branches, Jumps, CallsNear, Calls, Returns}
-use Rattle.codes.specs.declared.Decoded.{Decoded}
-use Rattle.codes.specs.declared.Decoded.TheVariants.{Code, NoCode}
 use Rattle.flow.specs.Targets.{next_of}
 use Rattle.decoder.specs.MirrorDecode.{decode_of}
 use Rattle.step.specs.Step.{step_of, good_pc}
 use Rattle.routine.specs.declared.Ending.{Ending}
 use Rattle.routine.specs.declared.Ending.TheVariants.{AtStop, Spent, Halted, Returned, Ninth, Elsewhere}
+use Rattle.routine.specs.declared.Kept.{Kept}
 use Rattle.routine.specs.declared.RoutineAnswer.{RoutineAnswer}
 
 -- the kept addresses, of which a list has the last first, as an answer has them: in the order pushed, and 0 up to the eighth
 abbrev pub in_order_of : List ℕ → List ℕ
 in_order_of [] = 0 ∷ 0 ∷ 0 ∷ 0 ∷ 0 ∷ 0 ∷ 0 ∷ 0 ∷ []
 in_order_of (k ∷ ks) = set (in_order_of ks) (length ks) k
+
+abbrev pub kept_of : List ℕ → Kept
+kept_of ks = record { addresses = in_order_of ks; count = length ks }
 
 -- an answer, and working memory after it
 pub record Routined : Type 0 where
@@ -35,7 +37,7 @@ routined a m = record { answer = a; mem = m }
 
 abbrev pub told : Registers → List ℕ → ℕ → ℕ → Ending → RoutineAnswer
 told r ks steps states why =
-    record { regs = r; steps = steps; states = states; why = why; kept = in_order_of ks; count = length ks }
+    record { regs = r; steps = steps; states = states; why = why; kept = kept_of ks }
 
 -- what the mode makes of a step that completes: it is taken, with these addresses kept after it; it is taken and the run returns; it is not taken
 pub data Turn : Type 0 where
@@ -62,9 +64,9 @@ turn_by (Calls target) next ks p = pushing next ks
 turn_by Returns next ks p = returning p ks
 
 -- where no code stands no step completes
-unfoldable pub turn_of : Decoded → ℕ → List ℕ → ℕ → Turn
-turn_of (Code i n) pc ks p = turn_by (goes_of i) (next_of pc n) ks p
-turn_of (NoCode f) pc ks p = on ks
+unfoldable pub turn_of : Result (Instruction × ℕ) Refusal → ℕ → List ℕ → ℕ → Turn
+turn_of (Ok (i, n)) pc ks p = turn_by (goes_of i) (next_of pc n) ks p
+turn_of (Err f) pc ks p = on ks
 
 unfoldable pub taken : Turn → (List ℕ → Routined) → Routined → (Ending → Routined) → Routined
 taken (on ks) go back end = go ks
@@ -72,9 +74,9 @@ taken goes_home go back end = back
 taken (leaves why) go back end = end why
 
 -- first whether the step is refused
-unfoldable pub onward : Outcome → Routined → (Ending → Routined) → Routined
-onward Done go end = go
-onward (Refused f) go end = end (Halted f)
+unfoldable pub onward : Result (Unit {0}) Refusal → Routined → (Ending → Routined) → Routined
+onward (Ok tt) go end = go
+onward (Err f) go end = end (Halted f)
 
 module _ (b : Board) (rom : List ℕ) (stop : ℕ) where
   -- with n steps of the budget left and the addresses ks kept, after so many steps and states: first the stop address, then the spent budget, then a step

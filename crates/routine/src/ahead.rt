@@ -5,15 +5,16 @@ ghost use Rattle.routine.specs.MirrorTurn.{was_read, aims, room_at, below_of, co
 
 use arith::Width;
 use codes::{Goes, Target};
-use memory::{Board, Got};
+use memory::Board;
+use refusal::Refusal;
 use registers::Registers;
 
-fn was_read(g: Got) -> bool
+fn was_read(g: Result<u32, Refusal>) -> bool
     ensures { result ≡ was_read g }
 {
     match g {
-        Got::Value(_) => true,
-        Got::NotRead(_) => false,
+        Ok(_) => true,
+        Err(_) => false,
     }
 }
 

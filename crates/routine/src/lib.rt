@@ -2,16 +2,16 @@
 // loop of a run. What is not taken is known before it is made: a return writes nothing, and a ninth call is asked about.
 #![tactic(auto)]
 
-ghost use Rattle.std.specs.Prelude.{◌≡◌, true, ◌&&◌, [], ◌+◌, ◌-◌, ◌%◌, ◌<◌, ◌≤◌, length, set};
+ghost use Rattle.std.specs.Prelude.{◌≡◌, true, ◌&&◌, [], ◌<◌, ◌≤◌, length};
 ghost use Rattle.codes.specs.States.{goes_of};
 ghost use Rattle.memory.specs.Board.{good_board};
 ghost use Rattle.step.specs.Step.{good_pc};
-ghost use Rattle.routine.specs.MirrorTurn.{seen_in, seen_at, ninth_in, stays, made, pushed, came_back, returned_to, followed, turned_by, left, turn_in};
-ghost use Rattle.routine.specs.Routine.{routined, told, routine_from, routine_of};
+ghost use Rattle.routine.specs.MirrorTurn.{seen_in, seen_at, ninth_in, pushed_on, last_of, taken_off, stays, made, pushed, returned_to, followed, turned_by, left, turn_in};
+ghost use Rattle.routine.specs.Routine.{kept_of, routined, told, routine_from, routine_of};
 
-use codes::{Decoded, Goes, Instruction};
+use codes::{Goes, Instruction};
 use memory::Board;
-use refusal::{Outcome, Refusal};
+use refusal::Refusal;
 use registers::Registers;
 use step::StepAnswer;
 
@@ -31,15 +31,56 @@ pub enum Ending {
     Elsewhere,
 }
 
-// The addresses that are kept, in the order in which they were pushed: `count` of them, and then 0.
+// The addresses that are kept, in the order in which they were pushed: `count` of them, and then 0. C is told all nine numbers (host/h8.h, h8_routine,
+// `kept_numbers`), so they lie as they are told.
+#[derive(Clone, Copy)]
+pub struct Kept {
+    pub addresses: [u32; 8],
+    pub count: u32,
+}
+
+impl Kept {
+    fn none() -> Kept
+        ensures { result ≡ kept_of [] }
+    {
+        Kept {
+            addresses: [0; 8],
+            count: 0,
+        }
+    }
+
+    fn push(&mut self, address: u32)
+        requires { self.old.count ≤ 8 }
+        ensures { self.new ≡ pushed_on self.old address }
+    {
+        self.addresses[(self.count % 8) as usize] = address;
+        self.count += 1;
+    }
+
+    // The one pushed last.
+    fn last(&self) -> u32
+        requires { 0 < self.now.count }
+        ensures { result ≡ last_of self.now }
+    {
+        self.addresses[((self.count - 1) % 8) as usize]
+    }
+
+    fn take_off(&mut self)
+        requires { 0 < self.old.count }
+        ensures { self.new ≡ taken_off self.old }
+    {
+        self.count -= 1;
+        self.addresses[(self.count % 8) as usize] = 0;
+    }
+}
+
 #[derive(Clone, Copy)]
 pub struct RoutineAnswer {
     pub regs: Registers,
     pub steps: u32,
     pub states: u64,
     pub why: Ending,
-    pub kept: [u32; 8],
-    pub count: u32,
+    pub kept: Kept,
 }
 
 // What stands at PC: where it lets PC go, and the address of the next instruction.
@@ -49,21 +90,14 @@ struct Seen {
     next: u32,
 }
 
-#[derive(Clone, Copy)]
-enum Going {
-    On,
-    Ends(Ending),
-}
-
-// One turn: the registers and the kept addresses after it, the step that it took, or none, and whether the run goes on.
+// One turn: the registers and the kept addresses after it, the step that it took, or none, and why the run ends with it, if it does.
 #[derive(Clone, Copy)]
 struct Turned {
     regs: Registers,
-    kept: [u32; 8],
-    count: u32,
+    kept: Kept,
     steps: u32,
     states: u32,
-    going: Going,
+    ends: Option<Ending>,
 }
 
 fn goes(i: Instruction) -> Goes
@@ -93,15 +127,15 @@ fn goes(i: Instruction) -> Goes
     }
 }
 
-fn standing(d: Decoded, pc: u32) -> Seen
+fn standing(d: Result<(Instruction, usize), Refusal>, pc: u32) -> Seen
     ensures { result ≡ seen_in d pc }
 {
     match d {
-        Decoded::Code(i, n) => Seen {
+        Ok((i, n)) => Seen {
             goes: goes(i),
             next: flow::next(pc, n),
         },
-        Decoded::NoCode(_) => Seen {
+        Err(_) => Seen {
             goes: Goes::Onward,
             next: 0,
         },
@@ -122,117 +156,97 @@ fn look(rom: &[u8], pc: u32) -> Seen
 }
 
 // Whether a call stands there that would complete and push a ninth address.
-fn ninth(g: Goes, count: u32, r: Registers, b: Board, rom: &[u8], ram: &[u8]) -> bool
-    ensures { result ≡ ninth_in g count r b rom.now ram.now }
+fn ninth(g: Goes, kept: Kept, r: Registers, b: Board, rom: &[u8], ram: &[u8]) -> bool
+    ensures { result ≡ ninth_in g kept.count r b rom.now ram.now }
 {
-    if count < 8 {
+    if kept.count < 8 {
         return false;
     }
     ahead::completes(g, r, b, rom, ram)
 }
 
-fn stay(r: Registers, kept: [u32; 8], count: u32, why: Ending) -> Turned
-    ensures { result ≡ stays r kept count why }
+fn stay(regs: Registers, kept: Kept, why: Ending) -> Turned
+    ensures { result ≡ stays regs kept why }
 {
     Turned {
-        regs: r,
-        kept: kept,
-        count: count,
+        regs,
+        kept,
         steps: 0,
         states: 0,
-        going: Going::Ends(why),
+        ends: Some(why),
     }
 }
 
-fn make(a: StepAnswer, kept: [u32; 8], count: u32, going: Going) -> Turned
-    ensures { result ≡ made a kept count going }
+fn make(a: StepAnswer, kept: Kept, ends: Option<Ending>) -> Turned
+    ensures { result ≡ made a kept ends }
 {
-    let r = a.regs;
     Turned {
-        regs: r,
-        kept: kept,
-        count: count,
+        regs: a.regs,
+        kept,
         steps: 1,
         states: a.states,
-        going: going,
+        ends,
     }
 }
 
-fn put(kept: [u32; 8], i: u32, x: u32) -> [u32; 8]
-    ensures { result ≡ set kept (i % 8) x }
+fn push(next: u32, mut kept: Kept, a: StepAnswer) -> Turned
+    requires { kept.count ≤ 8 }
+    ensures { result ≡ pushed next kept a }
 {
-    let mut l = kept;
-    let k = (i % 8) as usize;
-    l[k] = x;
-    l
+    kept.push(next);
+    make(a, kept, None)
 }
 
-fn push(next: u32, kept: [u32; 8], count: u32, a: StepAnswer) -> Turned
-    requires { count ≤ 8 }
-    ensures { result ≡ pushed next kept count a }
+// A return is taken if it goes to the address kept last, or with none kept.
+fn return_to(r: Registers, mut kept: Kept, a: StepAnswer) -> Turned
+    ensures { result ≡ returned_to r kept a }
 {
-    make(a, put(kept, count, next), count + 1, Going::On)
-}
-
-// With an address kept, a return is taken if it goes to the last.
-fn come_back(r: Registers, kept: [u32; 8], count: u32, a: StepAnswer) -> Turned
-    requires { 0 < count }
-    ensures { result ≡ came_back r kept count a }
-{
-    let last = count - 1;
-    let i = (last % 8) as usize;
-    if a.regs.pc == kept[i] {
-        return make(a, put(kept, last, 0), last, Going::On);
+    if kept.count == 0 {
+        return make(a, kept, Some(Ending::Returned));
     }
-    stay(r, kept, count, Ending::Elsewhere)
-}
-
-fn return_to(r: Registers, kept: [u32; 8], count: u32, a: StepAnswer) -> Turned
-    ensures { result ≡ returned_to r kept count a }
-{
-    if count == 0 {
-        return make(a, kept, count, Going::Ends(Ending::Returned));
+    if a.regs.pc != kept.last() {
+        return stay(r, kept, Ending::Elsewhere);
     }
-    come_back(r, kept, count, a)
+    kept.take_off();
+    make(a, kept, None)
 }
 
 // What is kept after a completed step.
-fn follow(g: Goes, next: u32, r: Registers, kept: [u32; 8], count: u32, a: StepAnswer) -> Turned
-    requires { count ≤ 8 }
-    ensures { result ≡ followed g next r kept count a }
+fn follow(g: Goes, next: u32, r: Registers, kept: Kept, a: StepAnswer) -> Turned
+    requires { kept.count ≤ 8 }
+    ensures { result ≡ followed g next r kept a }
 {
     match g {
-        Goes::Onward => make(a, kept, count, Going::On),
-        Goes::Branches(_, _) => make(a, kept, count, Going::On),
-        Goes::Jumps(_) => make(a, kept, count, Going::On),
-        Goes::CallsNear(_) => push(next, kept, count, a),
-        Goes::Calls(_) => push(next, kept, count, a),
-        Goes::Returns => return_to(r, kept, count, a),
+        Goes::Onward => make(a, kept, None),
+        Goes::Branches(_, _) => make(a, kept, None),
+        Goes::Jumps(_) => make(a, kept, None),
+        Goes::CallsNear(_) => push(next, kept, a),
+        Goes::Calls(_) => push(next, kept, a),
+        Goes::Returns => return_to(r, kept, a),
     }
 }
 
-fn by_outcome(g: Goes, next: u32, r: Registers, kept: [u32; 8], count: u32, a: StepAnswer) -> Turned
-    requires { count ≤ 8 }
-    ensures { result ≡ turned_by a.outcome g next r kept count a }
+fn by_outcome(g: Goes, next: u32, r: Registers, kept: Kept, a: StepAnswer) -> Turned
+    requires { kept.count ≤ 8 }
+    ensures { result ≡ turned_by a.outcome g next r kept a }
 {
-    let o = a.outcome;
-    match o {
-        Outcome::Done => follow(g, next, r, kept, count, a),
-        Outcome::Refused(f) => stay(r, kept, count, Ending::Halted(f)),
+    match a.outcome {
+        Ok(()) => follow(g, next, r, kept, a),
+        Err(f) => stay(r, kept, Ending::Halted(f)),
     }
 }
 
-fn turn(b: Board, rom: &[u8], ram: &mut [u8], r: Registers, kept: [u32; 8], count: u32) -> Turned
-    requires { count ≤ 8 }
-    ensures { left result ram.new ≡ turn_in b rom.now ram.old r kept count }
+fn turn(b: Board, rom: &[u8], ram: &mut [u8], r: Registers, kept: Kept) -> Turned
+    requires { kept.count ≤ 8 }
+    ensures { left result ram.new ≡ turn_in b rom.now ram.old r kept }
 {
     let s = look(rom, r.pc);
     let g = s.goes;
-    if ninth(g, count, r, b, rom, &ram[..]) {
-        return stay(r, kept, count, Ending::Ninth);
+    if ninth(g, kept, r, b, rom, &ram[..]) {
+        return stay(r, kept, Ending::Ninth);
     }
     let a = run::single(b, rom, ram, r);
-    by_outcome(g, s.next, r, kept, count, a)
+    by_outcome(g, s.next, r, kept, a)
 }
 
 // The board was looked at once; it stays right, and PC stays one that can be.
@@ -248,8 +262,7 @@ fn repeat(
     ensures { routined result ram.new ≡ routine_from b rom.now stop budget ram.old r [] 0 0 }
 {
     let mut q = r;
-    let mut kept: [u32; 8] = [0; 8];
-    let mut count: u32 = 0;
+    let mut kept = Kept::none();
     let mut steps: u32 = 0;
     let mut states: u64 = 0;
     let why = loop {
@@ -259,27 +272,21 @@ fn repeat(
         if steps == budget {
             break Ending::Spent;
         }
-        let t = turn(b, rom, ram, q, kept, count);
+        let t = turn(b, rom, ram, q, kept);
         q = t.regs;
         kept = t.kept;
-        count = t.count;
-        steps = steps + t.steps;
-        states = states + t.states as u64;
-        let going = t.going;
-        match going {
-            Going::Ends(why) => {
-                break why;
-            }
-            Going::On => {}
+        steps += t.steps;
+        states += t.states as u64;
+        if let Some(why) = t.ends {
+            break why;
         }
     };
     RoutineAnswer {
         regs: q,
-        steps: steps,
-        states: states,
-        why: why,
-        kept: kept,
-        count: count,
+        steps,
+        states,
+        why,
+        kept,
     }
 }
 
@@ -292,8 +299,7 @@ fn refuse(r: Registers, f: Refusal) -> RoutineAnswer
         steps: 0,
         states: 0,
         why: Ending::Halted(f),
-        kept: [0; 8],
-        count: 0,
+        kept: Kept::none(),
     }
 }
 

@@ -1,4 +1,6 @@
 -- The entry of a place means what the decoder finds there, and a new line keeps what the lines keep. Assumes nothing.
+use Rattle.std.specs.Prelude.{Result, Ok, Err}
+use Rattle.codes.specs.declared.Instruction.{Instruction}
 use Prim.Native.Nat.{ℕ, zero, suc, ◌+◌, ◌*◌, ◌/◌, ◌%◌, ◌<◌}
 use mathlib.Core.Path.{◌≡◌, refl, sym, ◌∙◌, ap}
 use mathlib.Core.Bool.{Bool, true, false, ◌&&◌}
@@ -9,10 +11,9 @@ use lib.ListN.{get_or, set, length}
 use lib.Seq.{get_or-set_same, get_or-set_other, set_out}
 use borrow.Author.Tests.{eqb-true, eqb-false, ltb-true, ltb-false}
 use Rattle.codes.specs.Exact.{Bytes}
-use Rattle.codes.specs.declared.Decoded.TheVariants.{Code}
 use Rattle.decoder.specs.MirrorDecode.{found_of, placed_of, decode_of}
-use Rattle.decoder.specs.declared.whole.Found.{Found}
-use Rattle.decoder.specs.declared.whole.Found.TheVariants.{Is, Cut, Unlisted}
+use Rattle.decoder.specs.declared.whole.Fault.{Fault}
+use Rattle.decoder.specs.declared.whole.Fault.TheVariants.{Cut, Unlisted}
 use Rattle.decoder.proofs.Laws.{code_read}
 use Rattle.entry.specs.Entry.{meaning_of}
 use Rattle.entry.proofs.Laws.{packed, small, unheld_means, unheld_small, cut_means}
@@ -23,15 +24,15 @@ use Rattle.run.specs.MirrorKept.{entry_of, Means, Keeps}
 -- ---- the entry of bytes
 
 module _ (p : ℕ) (s : List ℕ) (b : Bytes s) where
-  means_by : (found : Found) → found_of s ≡ found → meaning_of p (entry_of s found) ≡ placed_of p s found
-  means_by (Is i n) e = let r = code_read p s i n b (ap (placed_of p s) e) in packed p i r.valid ∙ ap (Code i) (sym r.length_is)
-  means_by Cut e = cut_means p
-  means_by Unlisted e = unheld_means p _ (small_group s)
+  means_by : (found : Result (Instruction × ℕ) Fault) → found_of s ≡ found → meaning_of p (entry_of s found) ≡ placed_of p s found
+  means_by (Ok (i, n)) e = let r = code_read p s i n b (ap (placed_of p s) e) in packed p i r.valid ∙ ap (λ n. Ok (i, n)) (sym r.length_is)
+  means_by (Err Cut) e = cut_means p
+  means_by (Err Unlisted) e = unheld_means p _ (small_group s)
 
-  small_by : (found : Found) → found_of s ≡ found → entry_of s found < 17592186044416
-  small_by (Is i n) e = small i (code_read p s i n b (ap (placed_of p s) e)).valid
-  small_by Cut e = omega arith
-  small_by Unlisted e = unheld_small _ (small_group s)
+  small_by : (found : Result (Instruction × ℕ) Fault) → found_of s ≡ found → entry_of s found < 17592186044416
+  small_by (Ok (i, n)) e = small i (code_read p s i n b (ap (placed_of p s) e)).valid
+  small_by (Err Cut) e = omega arith
+  small_by (Err Unlisted) e = unheld_small _ (small_group s)
 
   pub entry_means : (meaning_of p (entry_of s (found_of s)) ≡ decode_of p s) × (entry_of s (found_of s) < 17592186044416)
   entry_means = (means_by (found_of s) refl, small_by (found_of s) refl)

@@ -1,4 +1,5 @@
 -- A run of one step is the step.
+use Rattle.std.specs.Prelude.{Result, Ok, Err}
 use Prim.Native.Nat.{ℕ, ◌+◌, ◌%◌, ◌<◌}
 use mathlib.Core.Path.{◌≡◌, refl, sym, ◌∙◌, ap}
 use mathlib.Core.Bool.{Bool, true, false, cond}
@@ -8,8 +9,7 @@ use native.Mathlib.Omega.{arith}
 use borrow.Author.Tests.{ne_eqb}
 use lib.Dec.{eqb}
 use lib.ListN.{length}
-use Rattle.refusal.specs.declared.Outcome.{Outcome}
-use Rattle.refusal.specs.declared.Outcome.TheVariants.{Done, Refused}
+use Rattle.refusal.specs.declared.Refusal.{Refusal}
 use Rattle.registers.specs.declared.Registers.{Registers}
 use Rattle.memory.specs.Board.{good_board}
 use Rattle.memory.specs.declared.Board.{Board}
@@ -19,7 +19,8 @@ use Rattle.run.specs.Run.{Ran, ran, told, onward, run_from, run_of}
 use Rattle.run.proofs.Turns.{both, pc_fits}
 use Rattle.run.specs.MirrorSingle.{outcome_of}
 use Rattle.run.specs.MirrorTrail.{trail_at, Tells}
-use Rattle.run.specs.declared.Traced.{Traced}
+use Rattle.run.specs.declared.Noted.{Noted}
+use Rattle.run.specs.declared.RunAnswer.{RunAnswer}
 use Rattle.run.specs.declared.Ending.TheVariants.{AtStop, Spent, Halted}
 
 -- the step's answer, read off the run's
@@ -31,7 +32,7 @@ module _ (b : Board) (rom ram : List ℕ) (r : Registers) where
   off : good_pc r.pc ≡ true → eqb r.pc 1 ≡ false
   off g = let h = pc_fits true r.pc g in ne_eqb r.pc 1 (λ k. absurd (omega arith))
 
-  last : (t : Bool) (q : Registers) (m : List ℕ) (n : ℕ) → one (cond t (ran (told q (0 + 1) n AtStop) m) (ran (told q (0 + 1) n Spent) m)) ≡ after (answered q (n % 4294967296) Done) m
+  last : (t : Bool) (q : Registers) (m : List ℕ) (n : ℕ) → one (cond t (ran (told q (0 + 1) n AtStop) m) (ran (told q (0 + 1) n Spent) m)) ≡ after (answered q (n % 4294967296) (Ok tt)) m
   last true q m n = refl
   last false q m n = refl
 
@@ -40,16 +41,16 @@ module _ (b : Board) (rom ram : List ℕ) (r : Registers) where
       let l : 0 + (step_of b rom ram r).answer.states < 4294967296 = omega (arith, step_states r b rom ram) in
       let e : 0 + (step_of b rom ram r).answer.states ≡ (step_of b rom ram r).answer.states = omega arith in mod-eq_of_lt l ∙ e
 
-  turned : (o : Outcome) → (step_of b rom ram r).answer.outcome ≡ o
+  turned : (o : Result (Unit {0}) Refusal) → (step_of b rom ram r).answer.outcome ≡ o
       → one (onward o (run_from b rom 1 0 (step_of b rom ram r).mem (step_of b rom ram r).answer.regs (0 + 1) (0 + (step_of b rom ram r).answer.states)) (λ f. ran (told r 0 0 (Halted f)) (step_of b rom ram r).mem)) ≡ step_of b rom ram r
   unfolding run_from
-  turned Done d =
+  turned (Ok tt) d =
       last (eqb (step_of b rom ram r).answer.regs.pc 1) (step_of b rom ram r).answer.regs (step_of b rom ram r).mem (0 + (step_of b rom ram r).answer.states)
-      ∙ rw small (ap (λ (o : Outcome). after (answered (step_of b rom ram r).answer.regs (step_of b rom ram r).answer.states o) (step_of b rom ram r).mem) (sym d))
-  turned (Refused f) d =
+      ∙ rw small (ap (λ (o : Result (Unit {0}) Refusal). after (answered (step_of b rom ram r).answer.regs (step_of b rom ram r).answer.states o) (step_of b rom ram r).mem) (sym d))
+  turned (Err f) d =
       let e = step_refused r b rom ram f d in
       let k : (step_of b rom ram r).mem ≡ ram = ap (λ (x : After). x.mem) e in
-      ap (λ (m : List ℕ). after (answered r 0 (Refused f)) m) k ∙ sym e
+      ap (λ (m : List ℕ). after (answered r 0 (Err f)) m) k ∙ sym e
 
   started : good_start b rom ram r ≡ true → run_of b rom ram r 1 1 ≡ run_from b rom 1 1 ram r 0 0
   unfolding run_of
@@ -71,7 +72,7 @@ module _ (b : Board) (rom ram : List ℕ) (r : Registers) where
   single_is = by_board _ refl
 
   -- a step that was done was one of one, which spent the budget: PC is even after it
-  stays_even : good_start b rom ram r ≡ true → (step_of b rom ram r).answer.outcome ≡ Done → eqb (step_of b rom ram r).answer.regs.pc 1 ≡ false
+  stays_even : good_start b rom ram r ≡ true → (step_of b rom ram r).answer.outcome ≡ Ok tt → eqb (step_of b rom ram r).answer.regs.pc 1 ≡ false
   stays_even g d =
       let h = both (good_board b (length rom) (length ram)) (good_pc r.pc) g in
       let e = step_is r b rom ram h.0 h.1 in
@@ -80,13 +81,13 @@ module _ (b : Board) (rom ram : List ℕ) (r : Registers) where
       rw e (ne_eqb (fetch_of r b rom ram).answer.regs.pc 1 (λ z. absurd (omega (arith, u.1, z))))
 
   abbrev Once : Ran → Type 0
-  Once x = outcome_of x.answer.why ≡ Done → (x.answer.why ≡ Spent) × (x.answer.steps ≡ 1)
+  Once x = outcome_of x.answer.why ≡ Ok tt → (x.answer.why ≡ Spent) × (x.answer.steps ≡ 1)
 
-  ends : good_start b rom ram r ≡ true → (o : Outcome) → (step_of b rom ram r).answer.outcome ≡ o
+  ends : good_start b rom ram r ≡ true → (o : Result (Unit {0}) Refusal) → (step_of b rom ram r).answer.outcome ≡ o
       → Once (onward o (run_from b rom 1 0 (step_of b rom ram r).mem (step_of b rom ram r).answer.regs (0 + 1) (0 + (step_of b rom ram r).answer.states)) (λ f. ran (told r 0 0 (Halted f)) (step_of b rom ram r).mem))
   unfolding run_from
-  ends g Done d = rw (stays_even g d) (λ h. (refl, refl))
-  ends g (Refused f) d = λ h. let z : ◌≡◌ {A = ℕ} 0 1 = cc in absurd (omega arith)
+  ends g (Ok tt) d = rw (stays_even g d) (λ h. (refl, refl))
+  ends g (Err f) d = λ h. let z : ◌≡◌ {A = ℕ} 0 1 = cc in absurd (omega arith)
 
   went : good_start b rom ram r ≡ true → Once (run_from b rom 1 1 ram r 0 0)
   unfolding run_from
@@ -104,8 +105,8 @@ module _ (b : Board) (rom ram : List ℕ) (r : Registers) where
   one_spent = spends _ refl
 
 -- so its trail is that of the step
-pub one_told : (b : Board) (rom ram ram' : List ℕ) (r : Registers) (q : Traced) → ran q.answer ram' ≡ run_of b rom ram r 1 1 → Tells b rom r q
-    → outcome_of q.answer.why ≡ Done → q.touched ≡ trail_at rom r
+pub one_told : (b : Board) (rom ram ram' : List ℕ) (r : Registers) (q : Noted RunAnswer) → ran q.answer ram' ≡ run_of b rom ram r 1 1 → Tells b rom r q
+    → outcome_of q.answer.why ≡ Ok tt → q.touched ≡ trail_at rom r
 one_told b rom ram ram' r q e t d =
     let (w, s) = (rw (← e) at (one_spent b rom ram r)) d in
     let l = t w (λ z. absurd (omega (arith, s, z))) in

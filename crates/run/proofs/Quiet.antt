@@ -1,13 +1,14 @@
 -- The kinds of entries that touch no memory, and have many variants. Assumes nothing.
+use Rattle.std.specs.Prelude.{Result}
 use Prim.Native.Nat.{ℕ}
 use mathlib.Core.Path.{◌≡◌, refl}
 use mathlib.Core.Bool.{Bool, true, false, cond}
 use mathlib.Core.List.{[]}
 use lib.Dec.{eqb}
+use Rattle.refusal.specs.declared.Refusal.{Refusal}
 use Rattle.registers.specs.declared.Registers.{Registers}
 use Rattle.codes.specs.Cycles.{touches_of}
 use Rattle.codes.specs.declared.Instruction.{Instruction}
-use Rattle.codes.specs.declared.Decoded.{Decoded}
 use Rattle.moves.specs.Made.{trail_of}
 use Rattle.entry.specs.Entry.{counts, counted, turns, turned, long_turns, turned_long}
 use Rattle.turns.specs.MirrorTurn.{touched_by}
@@ -45,7 +46,7 @@ module _ (v d : ℕ) where
 
 -- the trail stays empty
 module _ (r : Registers) (v x : ℕ) where
-  abbrev Untouched : Decoded → Type 0
+  abbrev Untouched : Result (Instruction × ℕ) Refusal → Type 0
   Untouched d = 0 ≡ trail_of r 0 (touched_by d)
 
   pub quiet_counted : Untouched (counted v x)

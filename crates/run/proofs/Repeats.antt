@@ -1,4 +1,5 @@
 -- A run on a right board is the repeated step: its steps and states are the counts of `Steps`. Assumes nothing.
+use Rattle.std.specs.Prelude.{Result, Ok, Err}
 use Prim.Native.Nat.{ℕ, zero, suc, ◌+◌, ◌≤◌, ◌<◌}
 use mathlib.Core.Path.{◌≡◌, refl, ap}
 use mathlib.Core.Bool.{Bool, true, false}
@@ -6,8 +7,7 @@ use mathlib.Core.List.{List}
 use native.Mathlib.Omega.{arith}
 use borrow.Author.Tests.{eqb-true, eqb-false, le-ltb}
 use lib.Dec.{eqb}
-use Rattle.refusal.specs.declared.Outcome.{Outcome}
-use Rattle.refusal.specs.declared.Outcome.TheVariants.{Done, Refused}
+use Rattle.refusal.specs.declared.Refusal.{Refusal}
 use Rattle.registers.specs.declared.Registers.{Registers}
 use Rattle.memory.specs.declared.Board.{Board}
 use Rattle.machine.specs.Machine.{Steps, none, more}
@@ -34,11 +34,11 @@ module _ (b : Board) (rom : List ℕ) (stop budget : ℕ) where
   at_once ram r steps states why e = record { c = 0; m = 0; count = omega arith; sum = omega arith; led = none; ended = e }
 
   -- a step, and then what follows
-  one_more : (ram : List ℕ) (r : Registers) (steps states : ℕ) (a : Ran) → Away stop (state r ram) → (step_of b rom ram r).answer.outcome ≡ Done
+  one_more : (ram : List ℕ) (r : Registers) (steps states : ℕ) (a : Ran) → Away stop (state r ram) → (step_of b rom ram r).answer.outcome ≡ Ok tt
       → From (step_of b rom ram r).mem (step_of b rom ram r).answer.regs (steps + 1) (states + (step_of b rom ram r).answer.states) a → From ram r steps states a
   one_more ram r steps states a away d f =
-      let does : step_of b rom ram r ≡ after (answered (step_of b rom ram r).answer.regs (step_of b rom ram r).answer.states Done) (step_of b rom ram r).mem =
-      ap (λ (o : Outcome). after (answered (step_of b rom ram r).answer.regs (step_of b rom ram r).answer.states o) (step_of b rom ram r).mem) d in
+      let does : step_of b rom ram r ≡ after (answered (step_of b rom ram r).answer.regs (step_of b rom ram r).answer.states (Ok tt)) (step_of b rom ram r).mem =
+      ap (λ (o : Result (Unit {0}) Refusal). after (answered (step_of b rom ram r).answer.regs (step_of b rom ram r).answer.states o) (step_of b rom ram r).mem) d in
       record {
         c = f.c + 1;
         m = (step_of b rom ram r).answer.states + f.m;
@@ -58,11 +58,11 @@ module _ (b : Board) (rom : List ℕ) (stop budget : ℕ) where
   turn : (n : ℕ) (ram : List ℕ) (r : Registers) (steps states : ℕ) → steps < budget
       → From (step_of b rom ram r).mem (step_of b rom ram r).answer.regs (steps + 1) (states + (step_of b rom ram r).answer.states)
       (run_from b rom stop n (step_of b rom ram r).mem (step_of b rom ram r).answer.regs (steps + 1) (states + (step_of b rom ram r).answer.states))
-      → (t : Bool) → eqb r.pc stop ≡ t → (o : Outcome) → (step_of b rom ram r).answer.outcome ≡ o → From ram r steps states (run_from b rom stop (suc n) ram r steps states)
+      → (t : Bool) → eqb r.pc stop ≡ t → (o : Result (Unit {0}) Refusal) → (step_of b rom ram r).answer.outcome ≡ o → From ram r steps states (run_from b rom stop (suc n) ram r steps states)
   unfolding run_from
   turn n ram r steps states l rest true h o d = rw h (at_once ram r steps states AtStop (eqb-true r.pc stop h))
-  turn n ram r steps states l rest false h Done d = rw (h, d) (one_more ram r steps states _ (eqb-false r.pc stop h) d rest)
-  turn n ram r steps states l rest false h (Refused f) d =
+  turn n ram r steps states l rest false h (Ok tt) d = rw (h, d) (one_more ram r steps states _ (eqb-false r.pc stop h) d rest)
+  turn n ram r steps states l rest false h (Err f) d =
       let e = step_refused r b rom ram f d in
       let k : (step_of b rom ram r).mem ≡ ram = ap (λ (x : After). x.mem) e in
       rw (h, d, k) (at_once ram r steps states (Halted f) (eqb-false r.pc stop h, l, e))

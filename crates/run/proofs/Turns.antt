@@ -1,4 +1,5 @@
 -- One turn of a run. The board was found right and PC is one that can be; both stay so. Assumes nothing.
+use Rattle.std.specs.Prelude.{Result, Ok, Err}
 use Prim.Native.Nat.{ℕ, zero, suc, ◌+◌, ◌-◌, ◌/◌, ◌%◌, ◌≤◌, ◌<◌}
 use mathlib.Core.Path.{◌≡◌, refl, sym, ◌∙◌, ap, subst}
 use mathlib.Core.Bool.{Bool, true, false, ◌&&◌}
@@ -7,12 +8,10 @@ use borrow.Author.Tests.{eq-eqb, ne_eqb, eqb-true, ltb-true, lt-ltb, le-ltb}
 use native.Mathlib.Omega.{arith}
 use lib.Dec.{eqb, ltb}
 use lib.ListN.{length}
+use Rattle.codes.specs.declared.Instruction.{Instruction}
 use Rattle.refusal.specs.declared.Refusal.{Refusal}
 use Rattle.refusal.specs.declared.Refusal.TheVariants.{FetchOutside, UnknownCode}
-use Rattle.codes.specs.declared.Decoded.{Decoded}
-use Rattle.codes.specs.declared.Decoded.TheVariants.{NoCode}
 use Rattle.moves.specs.Made.{trail_of}
-use Rattle.refusal.specs.declared.Outcome.TheVariants.{Done, Refused}
 use Rattle.registers.specs.declared.Condition.{Condition}
 use Rattle.registers.specs.declared.Registers.{Registers}
 use Rattle.registers.specs.Lent.{lent}
@@ -36,7 +35,7 @@ use Rattle.run.specs.declared.Ending.TheVariants.{AtStop, Spent, Halted}
 
 module _ (p k v x : ℕ) where
   pub no_kind : (k ≡ 0 → ⊥) → (k ≡ 1 → ⊥) → (k ≡ 2 → ⊥) → (k ≡ 3 → ⊥) → (k ≡ 4 → ⊥) → (k ≡ 5 → ⊥) → (k ≡ 6 → ⊥) → (k ≡ 7 → ⊥) → (k ≡ 8 → ⊥) → (k ≡ 9 → ⊥)
-      → (k ≡ 10 → ⊥) → (k ≡ 11 → ⊥) → (k ≡ 12 → ⊥) → (k ≡ 13 → ⊥) → (k ≡ 14 → ⊥) → (k ≡ 15 → ⊥) → (k ≡ 16 → ⊥) → (k ≡ 17 → ⊥) → (k ≡ 18 → ⊥) → (k ≡ 19 → ⊥) → by_kind p k v x ≡ NoCode (UnknownCode p)
+      → (k ≡ 10 → ⊥) → (k ≡ 11 → ⊥) → (k ≡ 12 → ⊥) → (k ≡ 13 → ⊥) → (k ≡ 14 → ⊥) → (k ≡ 15 → ⊥) → (k ≡ 16 → ⊥) → (k ≡ 17 → ⊥) → (k ≡ 18 → ⊥) → (k ≡ 19 → ⊥) → by_kind p k v x ≡ Err (UnknownCode p)
   unfolding by_kind
   no_kind n0 n1 n2 n3 n4 n5 n6 n7 n8 n9 n10 n11 n12 n13 n14 n15 n16 n17 n18 n19 =
       rw (
@@ -83,18 +82,18 @@ module _ (r : Registers) (b : Board) (rom ram : List ℕ) where
     pub by_trail : (k : ℕ) → e / 16 % 32 ≡ k → (t : ℕ) → t ≡ trail_of r 0 (touched_by (by_kind r.pc k (e % 16) (e / 512))) → t ≡ trail_at rom r
     unfolding meaning_of
     by_trail k h t w =
-        let g : trail_of r 0 (touched_by (by_kind r.pc (e / 16 % 32) (e % 16) (e / 512))) ≡ trail_at rom r = ap (λ (d : Decoded). trail_of r 0 (touched_by d)) m in
+        let g : trail_of r 0 (touched_by (by_kind r.pc (e / 16 % 32) (e % 16) (e / 512))) ≡ trail_at rom r = ap (λ (d : Result (Instruction × ℕ) Refusal). trail_of r 0 (touched_by d)) m in
         w ∙ rw h at g
 
 -- ---- what the turn left: er and m after it
 
 module _ (er₀ er : List ℕ) (pc : ℕ) (f : Condition) (t : Turn) (b : Board) (rom ram m : List ℕ) (e : after (told_in er pc t) m ≡ fetch_of (lent er₀ pc f) b rom ram) where
-  pub turn_done : t.outcome ≡ Done → after (answered (lent er (pc_of t.pc) t.condition) t.states Done) m ≡ fetch_of (lent er₀ pc f) b rom ram
+  pub turn_done : t.outcome ≡ Ok tt → after (answered (lent er (pc_of t.pc) t.condition) t.states (Ok tt)) m ≡ fetch_of (lent er₀ pc f) b rom ram
   turn_done d = ap (λ (a : StepAnswer). after a m) (sym (told_done er pc t d)) ∙ e
 
   -- a refused turn has written nothing
-  module _ (x : Refusal) (d : t.outcome ≡ Refused x) where
-    outcome_is : (told_in er pc t).outcome ≡ Refused x
+  module _ (x : Refusal) (d : t.outcome ≡ Err x) where
+    outcome_is : (told_in er pc t).outcome ≡ Err x
     unfolding told_in told_as
     outcome_is = rw d
 
@@ -112,7 +111,7 @@ module _ (er₀ er : List ℕ) (pc : ℕ) (f : Condition) (t : Turn) (b : Board)
 
 -- ---- the run
 
-pub as_done : {t u : Turn} → t ≡ u → t.outcome ≡ Done → u.outcome ≡ Done
+pub as_done : {t u : Turn} → t ≡ u → t.outcome ≡ Ok tt → u.outcome ≡ Ok tt
 as_done e o = ap (λ (x : Turn). x.outcome) (sym e) ∙ o
 
 pub not_stopped : AtStop ≡ Spent → ⊥
@@ -162,10 +161,10 @@ module _ (b : Board) (rom : List ℕ) (stop : ℕ) (w ram : List ℕ) (r : Regis
     unfolding step_of
     step_is = rw good (sym e)
 
-    module _ (d : a.outcome ≡ Done) where
+    module _ (d : a.outcome ≡ Ok tt) where
       kept : Kept r b rom ram (after a m)
       kept =
-          let o : (fetch_of r b rom ram).answer.outcome ≡ Done = ap (λ (x : After). x.answer.outcome) (sym e) ∙ d in
+          let o : (fetch_of r b rom ram).answer.outcome ≡ (Ok tt) = ap (λ (x : After). x.answer.outcome) (sym e) ∙ d in
           subst (λ (x : After). Kept r b rom ram x) (sym e) (fetch_keeps r b rom ram o)
 
       pub length_kept : length m ≡ length ram
@@ -175,11 +174,11 @@ module _ (b : Board) (rom : List ℕ) (stop : ℕ) (w ram : List ℕ) (r : Regis
       still_good = rw (kept.length_stays, (both (good_board b (length rom) (length ram)) (good_pc r.pc) good).0) kept.pc_good
 
     module _ (budget : ℕ) (off : r.pc ≡ stop → ⊥) (le : steps ≤ budget) (ne : steps ≡ budget → ⊥) (on : strays_of w steps r.pc r.condition states ≡ false) where
-      pub goes_on : a.outcome ≡ Done
+      pub goes_on : a.outcome ≡ Ok tt
           → along_from b rom stop w (budget - steps) ram r steps states ≡ along_from b rom stop w (budget - (steps + 1)) m a.regs (steps + 1) (states + a.states)
       unfolding along_from
       goes_on d = rw (left budget off le ne, ne_eqb _ _ off, on, step_is, d)
 
-      pub refused : (f : Refusal) → a.outcome ≡ Refused f → along_from b rom stop w (budget - steps) ram r steps states ≡ ran (told r steps states (Halted f)) m
+      pub refused : (f : Refusal) → a.outcome ≡ Err f → along_from b rom stop w (budget - steps) ram r steps states ≡ ran (told r steps states (Halted f)) m
       unfolding along_from
       refused f d = rw (left budget off le ne, ne_eqb _ _ off, on, step_is, d)

@@ -1,15 +1,16 @@
 -- What a run keeps of the entries that it has made. Nothing here is to be believed.
-use Rattle.std.specs.Prelude.{ℕ, ◌+◌, ◌/◌, ◌%◌, ◌≡◌, List, get_or, drop}
+use Rattle.std.specs.Prelude.{ℕ, ◌+◌, ◌/◌, ◌%◌, ◌≡◌, List, get_or, drop, Result, Ok, Err}
+use Rattle.codes.specs.declared.Instruction.{Instruction}
 use Rattle.decoder.specs.MirrorDecode.{decode_of}
-use Rattle.decoder.specs.declared.whole.Found.{Found}
-use Rattle.decoder.specs.declared.whole.Found.TheVariants.{Is, Cut, Unlisted}
+use Rattle.decoder.specs.declared.whole.Fault.{Fault}
+use Rattle.decoder.specs.declared.whole.Fault.TheVariants.{Cut, Unlisted}
 use Rattle.entry.specs.Entry.{meaning_of, pack_of, unheld_entry, cut_entry}
 use Rattle.left.specs.Left.{group_in, left_out}
 
-abbrev pub entry_of : List ℕ → Found → ℕ
-entry_of s (Is i n) = pack_of i
-entry_of s Cut = cut_entry
-entry_of s Unlisted = unheld_entry (group_in left_out s)
+abbrev pub entry_of : List ℕ → Result (Instruction × ℕ) Fault → ℕ
+entry_of s (Ok (i, n)) = pack_of i
+entry_of s (Err Cut) = cut_entry
+entry_of s (Err Unlisted) = unheld_entry (group_in left_out s)
 
 -- an entry stands for what the decoder finds at the place
 abbrev pub Means : List ℕ → ℕ → ℕ → Type 0

@@ -8,9 +8,9 @@ use Rattle.step.specs.Step.{step_of}
 use Rattle.turns.specs.MirrorTurn.{touched_by}
 use Rattle.run.specs.declared.Ending.TheVariants.{Spent}
 use Rattle.run.specs.declared.RunAnswer.{RunAnswer}
-use Rattle.run.specs.declared.Traced.{Traced}
+use Rattle.run.specs.declared.Noted.{Noted}
 
-abbrev pub traced : RunAnswer → ℕ → Traced
+abbrev pub traced : RunAnswer → ℕ → Noted RunAnswer
 traced a t = record { answer = a; touched = t }
 
 -- what the instruction at PC touches, noted behind nothing
@@ -26,5 +26,5 @@ pub record Last (b : Board) (rom : List ℕ) (r₀ : Registers) (steps : ℕ) (r
   pub tells : trail ≡ trail_at rom begun
 
 -- where a run from r₀ spent its budget, its trail is that of the last step
-abbrev pub Tells : Board → List ℕ → Registers → Traced → Type 0
+abbrev pub Tells : Board → List ℕ → Registers → Noted RunAnswer → Type 0
 Tells b rom r₀ q = q.answer.why ≡ Spent → (q.answer.steps ≡ 0 → ⊥) → Last b rom r₀ q.answer.steps q.answer.regs q.touched

@@ -1,9 +1,7 @@
 -- A run: the step repeated (document 01, "The board and a run").
-use Rattle.std.specs.Prelude.{ℕ, zero, suc, ◌+◌, cond, List, ltb, eqb}
+use Rattle.std.specs.Prelude.{ℕ, zero, suc, ◌+◌, cond, List, ltb, eqb, Result, Ok, Err}
 use Rattle.refusal.specs.declared.Refusal.{Refusal}
 use Rattle.refusal.specs.declared.Refusal.TheVariants.{BadBoard, BudgetTooLarge}
-use Rattle.refusal.specs.declared.Outcome.{Outcome}
-use Rattle.refusal.specs.declared.Outcome.TheVariants.{Done, Refused}
 use Rattle.registers.specs.declared.Registers.{Registers}
 use Rattle.memory.specs.declared.Board.{Board}
 use Rattle.step.specs.Step.{step_of, good_start}
@@ -23,9 +21,9 @@ abbrev pub told : Registers → ℕ → ℕ → Ending → RunAnswer
 told r steps states why = record { regs = r; steps = steps; states = states; why = why }
 
 -- a completed step goes on; a refused one ends the run, and keeps the work of those before it
-abbrev pub onward : Outcome → Ran → (Refusal → Ran) → Ran
-onward Done go end = go
-onward (Refused f) go end = end f
+abbrev pub onward : Result (Unit {0}) Refusal → Ran → (Refusal → Ran) → Ran
+onward (Ok tt) go end = go
+onward (Err f) go end = end f
 
 module _ (b : Board) (rom : List ℕ) (stop : ℕ) where
   -- with n steps of the budget left, after so many steps and states: first the stop address, then the spent budget, then a step

@@ -5,7 +5,8 @@ ghost use Rattle.run.specs.MirrorAlong.{longer, two_at, four_at, apart, strays_o
 
 use registers::Condition;
 
-fn longer_by(n: u32, x: u8) -> u32
+// A number with one byte more below it.
+pub fn longer_by(n: u32, x: u8) -> u32
     ensures { result ≡ longer n x }
 {
     n % 16777216 * 256 + x as u32
@@ -36,22 +37,16 @@ fn four(w: &[u8], i: usize) -> u32
 fn upper(f: Condition) -> u64
     ensures { (result ≡ apart f.i f.ui f.h f.u) × (result ≤ 16843009) }
 {
-    arith::number(f.i)
-        + 256 * arith::number(f.ui)
-        + 65536 * arith::number(f.h)
-        + 16777216 * arith::number(f.u)
+    u64::from(f.i) + 256 * u64::from(f.ui) + 65536 * u64::from(f.h) + 16777216 * u64::from(f.u)
 }
 
 fn lower(f: Condition) -> u64
     ensures { (result ≡ apart f.n f.z f.v f.c) × (result ≤ 16843009) }
 {
-    arith::number(f.n)
-        + 256 * arith::number(f.z)
-        + 65536 * arith::number(f.v)
-        + 16777216 * arith::number(f.c)
+    u64::from(f.n) + 256 * u64::from(f.z) + 65536 * u64::from(f.v) + 16777216 * u64::from(f.c)
 }
 
-// The same as `Condition::byte`, which brings its flags together one by one: that was most of what a record cost. Here each of four bytes
+// The same as `u8::from`, which brings its flags together one by one: that was most of what a record cost. Here each of four bytes
 // holds an upper flag in bit 4 and a lower one in bit 0, and one product brings the four into byte 3, each a bit further up than the next.
 // What else the product makes lies above byte 3, or below it and without a carry.
 fn condition_byte(f: Condition) -> u8

@@ -2,18 +2,19 @@
 ghost use Rattle.std.specs.Prelude.{◌≡◌, ◌%◌, ◌<◌, get_or, length, set};
 ghost use Rattle.run.specs.MirrorKept.{entry_of, Means, Keeps};
 
-use decoder::whole::Found;
+use codes::Instruction;
+use decoder::whole::Fault;
 
 // An entry is below 2^44, a tag below 2^16.
 const TAG: u64 = 17592186044416;
 
-fn entry_of(found: Found, bytes: &[u8]) -> u64
+fn entry_of(found: Result<(Instruction, usize), Fault>, bytes: &[u8]) -> u64
     ensures { result ≡ entry_of bytes.now found }
 {
     match found {
-        Found::Is(i, _) => entry::pack(i),
-        Found::Cut => entry::CUT,
-        Found::Unlisted => entry::unheld(left::group(bytes)),
+        Ok((i, _)) => entry::pack(i),
+        Err(Fault::Cut) => entry::CUT,
+        Err(Fault::Unlisted) => entry::unheld(left::group(bytes)),
     }
 }
 

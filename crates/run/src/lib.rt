@@ -1,8 +1,7 @@
 // The repeated step, up to a stop address and within a budget.
 #![tactic(auto)]
 
-ghost use Rattle.std.specs.Prelude.{◌≡◌, true, ◌&&◌, ◌%◌, ◌≤◌};
-ghost use Rattle.refusal.specs.declared.Outcome.TheVariants.{Done};
+ghost use Rattle.std.specs.Prelude.{◌≡◌, true, ◌&&◌, ◌%◌, ◌≤◌, Ok};
 ghost use Rattle.step.specs.Step.{after, answered, good_start, step_of};
 ghost use Rattle.run.specs.MirrorAlong.{Covers, along_from, start_of, fewer_of, along_of};
 ghost use Rattle.run.specs.MirrorKept.{Keeps};
@@ -11,12 +10,14 @@ ghost use Rattle.run.specs.MirrorTrail.{traced, trail_at, Tells};
 ghost use Rattle.run.specs.Run.{ran, told, run_of};
 
 use memory::Board;
-use refusal::{Outcome, Refusal};
+use refusal::Refusal;
 use registers::Registers;
 use step::StepAnswer;
 
 mod beside;
 mod kept;
+
+pub use beside::longer_by;
 
 // Why a run ended.
 #[derive(Clone, Copy)]
@@ -34,33 +35,23 @@ pub struct RunAnswer {
     pub why: Ending,
 }
 
-// A run, and what its last step noted.
+// The answer of a run or of a step, and what the last step noted: memory::told unpacks it.
 #[derive(Clone, Copy)]
-struct Traced {
-    answer: RunAnswer,
-    touched: u64,
-}
-
-// A step, and what it noted: memory::told unpacks it.
-#[derive(Clone, Copy)]
-pub struct Told {
-    pub answer: StepAnswer,
+pub struct Noted<A> {
+    pub answer: A,
     pub touched: u64,
 }
 
-fn answer(r: Registers, steps: u32, states: u64, why: Ending) -> Traced
+fn answer(r: Registers, steps: u32, states: u64, why: Ending) -> Noted<RunAnswer>
     ensures { result ≡ traced (told r steps states why) 0 }
 {
-    let a = RunAnswer {
+    let answer = RunAnswer {
         regs: r,
-        steps: steps,
-        states: states,
-        why: why,
+        steps,
+        states,
+        why,
     };
-    Traced {
-        answer: a,
-        touched: 0,
-    }
+    Noted { answer, touched: 0 }
 }
 
 // The board was looked at once; it stays right, and PC stays one that can be. The registers lie here, and each group of entries is called
@@ -76,7 +67,7 @@ fn repeat(
     budget: u32,
     records: &[u8],
     before: u32,
-) -> Traced
+) -> Noted<RunAnswer>
     requires { (budget ≤ 1000000) × (good_start b rom.now ram.old r ≡ true) × Keeps rom.now lines.old × Covers records.now budget }
     ensures did { ran result.answer ram.new ≡ along_from b rom.now stop records.now budget ram.old r 0 before }
     ensures told { Tells b rom.now r result }
@@ -130,29 +121,29 @@ fn repeat(
         };
         let o = t.outcome;
         match o {
-            Outcome::Refused(y) => {
+            Err(y) => {
                 break Ending::Halted(y);
             }
-            Outcome::Done => {}
+            Ok(()) => {}
         }
         f = t.condition;
         pc = registers::pc(t.pc);
         states = states + t.states as u64;
         steps = steps + 1;
     };
-    let q = Registers {
-        er: er,
-        pc: pc,
+    let regs = Registers {
+        er,
+        pc,
         condition: f,
     };
-    let a = RunAnswer {
-        regs: q,
-        steps: steps,
-        states: states,
-        why: why,
+    let answer = RunAnswer {
+        regs,
+        steps,
+        states,
+        why,
     };
-    Traced {
-        answer: a,
+    Noted {
+        answer,
         touched: trail,
     }
 }
@@ -168,7 +159,7 @@ fn start(
     budget: u32,
     records: &[u8],
     before: u32,
-) -> Traced
+) -> Noted<RunAnswer>
     requires { Keeps rom.now lines.old × Covers records.now budget }
     ensures did { ran result.answer ram.new ≡ start_of b rom.now ram.old r stop budget records.now before }
     ensures told { Tells b rom.now r result }
@@ -218,41 +209,37 @@ pub fn along(
     k.answer
 }
 
-fn outcome(why: Ending) -> Outcome
+fn outcome(why: Ending) -> Result<(), Refusal>
     ensures { result ≡ outcome_of why }
 {
     match why {
-        Ending::AtStop => Outcome::Done,
-        Ending::Spent => Outcome::Done,
-        Ending::Halted(f) => Outcome::Refused(f),
+        Ending::AtStop => Ok(()),
+        Ending::Spent => Ok(()),
+        Ending::Halted(f) => Err(f),
     }
 }
 
 fn ended(q: Registers, states: u64, why: Ending) -> StepAnswer
     ensures { result ≡ answered q (states % 4294967296) (outcome_of why) }
 {
-    let o = outcome(why);
     StepAnswer {
         regs: q,
         states: (states % 4294967296) as u32,
-        outcome: o,
+        outcome: outcome(why),
     }
 }
 
 // One step: a run of one, that keeps nothing. The stop address is odd, and PC is not.
-pub fn watched(b: Board, rom: &[u8], ram: &mut [u8], r: Registers) -> Told
+pub fn watched(b: Board, rom: &[u8], ram: &mut [u8], r: Registers) -> Noted<StepAnswer>
     ensures did { after result.answer ram.new ≡ step_of b rom.now ram.old r }
-    ensures told { result.answer.outcome ≡ Done → result.touched ≡ trail_at rom.now r }
+    ensures told { result.answer.outcome ≡ (Ok tt) → result.touched ≡ trail_at rom.now r }
 {
     let mut lines: [u64; 0] = [0; 0];
     let none: [u8; 0] = [0; 0];
     let k = start(b, rom, &mut lines, ram, r, 1, 1, &none, 0);
     let a = k.answer;
-    let q = a.regs;
-    let why = a.why;
-    let s = ended(q, a.states, why);
-    Told {
-        answer: s,
+    Noted {
+        answer: ended(a.regs, a.states, a.why),
         touched: k.touched,
     }
 }
@@ -260,6 +247,5 @@ pub fn watched(b: Board, rom: &[u8], ram: &mut [u8], r: Registers) -> Told
 pub fn single(b: Board, rom: &[u8], ram: &mut [u8], r: Registers) -> StepAnswer
     ensures { after result ram.new ≡ step_of b rom.now ram.old r }
 {
-    let t = watched(b, rom, ram, r);
-    t.answer
+    watched(b, rom, ram, r).answer
 }

@@ -13,7 +13,7 @@ use Rattle.runlines.specs.Runs.{why_words, why_plain, counts_words, counts_plain
 
 -- the address kept last, where a return has to go; `count` of eight are kept
 abbrev pub kept_last : RoutineAnswer → ℕ
-kept_last a = get_or a.kept ((a.count + 7) % 8) 0
+kept_last a = get_or a.kept.addresses ((a.kept.count + 7) % 8) 0
 
 abbrev pub ninth_words : ℕ → List ℕ
 ninth_words pc = ascii "ended: before the call at " ++ (place_of pc ++ ascii ", which would keep a ninth address\n")

@@ -1,5 +1,5 @@
 // The lines that the tool prints for a run, a routine's run, a trace and a replay, in words or, with `plain`, as one name and value a line. Each function promises the exact text.
-#![tactic(auto)]
+#![tactic(auto, using(text::proofs::Adding::added_append, text::proofs::Adding::padded), unfolding(text::specs::Lines::added))]
 
 mod replays;
 mod routines;

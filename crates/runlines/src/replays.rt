@@ -1,7 +1,9 @@
 // h8 replay: whether all records agree, which differs and where, or what was refused.
-ghost use Rattle.std.specs.Prelude.{◌≡◌, false, ◌++◌};
-ghost use Rattle.text.specs.Lines.{Adds, ascii};
-ghost use Rattle.text.specs.Numbers.{hex_of, place_of, decimal_of};
+#![tactic(auto, using(text::proofs::Adding::added_append, text::proofs::Adding::padded), unfolding(text::specs::Lines::added, crate::specs::Replays::replayed_text, crate::specs::Replays::differs_text, crate::specs::Replays::there_text, crate::specs::Replays::stopped_text))]
+
+ghost use Rattle.std.specs.Prelude.{◌≡◌, ◌++◌};
+ghost use Rattle.text.specs.Lines.{added, ascii};
+ghost use Rattle.text.specs.Numbers.{place_of, decimal_of};
 ghost use Rattle.wording.specs.Standing.{stands_at};
 ghost use Rattle.wording.specs.Parts.{number_line, place_line};
 ghost use Rattle.runlines.specs.Replays.{replayed_text, field_words, field_name, value_text, differs_words, differs_plain, differs_text, there_text, stopped_text};
@@ -11,153 +13,141 @@ use replay::Field;
 use text::Line;
 use wording::parts;
 
-fn counts(l: Line, records: u32, states: u64) -> Line
-    ensures { Adds l (number_line (ascii "agreed") records ++ number_line (ascii "states") states) result }
+fn counts(l: &mut Line, records: u32, states: u64)
+    ensures { l.new ≡ added l.old (number_line (ascii "agreed") records ++ number_line (ascii "states") states) }
 {
-    let a = parts::number(l, b"agreed", records as u64);
-    parts::number(a, b"states", states)
+    parts::number(l, "agreed", u64::from(records));
+    parts::number(l, "states", states);
 }
 
-fn sentence(mut l: Line, first: &[u8], records: u32, middle: &[u8], states: u64) -> Line
-    ensures { Adds l (first.now ++ (decimal_of records ++ (middle.now ++ (decimal_of states ++ ascii "\n")))) result }
+fn sentence(l: &mut Line, first: &str, records: u32, middle: &str, states: u64)
+    ensures { l.new ≡ added l.old (first.now ++ (decimal_of records ++ (middle.now ++ (decimal_of states ++ ascii "\n")))) }
 {
-    l = text::bytes(l, first);
-    l = text::decimal(l, records as u64);
-    l = text::bytes(l, middle);
-    l = text::decimal(l, states);
-    text::put(l, b'\n')
+    l.text(first);
+    l.decimal(u64::from(records));
+    l.text(middle);
+    l.decimal(states);
+    l.byte(b'\n');
 }
 
 // The records that agreed and their states; in words what stands before each of the two is given.
-pub fn replayed(
-    l: Line,
-    first: &[u8],
-    records: u32,
-    middle: &[u8],
-    states: u64,
-    plain: bool,
-) -> Line
-    ensures { Adds l (replayed_text first.now records middle.now states plain) result }
+pub fn replayed(l: &mut Line, first: &str, records: u32, middle: &str, states: u64, plain: bool)
+    ensures { l.new ≡ added l.old (replayed_text first.now records middle.now states plain) }
 {
     if plain {
-        counts(l, records, states)
+        counts(l, records, states);
     } else {
-        sentence(l, first, records, middle, states)
+        sentence(l, first, records, middle, states);
     }
 }
 
-fn field_words(l: Line, f: Field) -> Line
-    ensures { Adds l (field_words f) result }
+fn field_words(f: Field) -> &'static str
+    ensures { result.now ≡ field_words f }
 {
     match f {
-        Field::OfPc => text::bytes(l, b"PC is "),
-        Field::OfCondition => text::bytes(l, b"the condition byte is "),
-        Field::OfStates => text::bytes(l, b"the number of states is "),
+        Field::OfPc => "PC is ",
+        Field::OfCondition => "the condition byte is ",
+        Field::OfStates => "the number of states is ",
     }
 }
 
-fn field_name(l: Line, f: Field) -> Line
-    ensures { Adds l (field_name f) result }
+fn field_name(f: Field) -> &'static str
+    ensures { result.now ≡ field_name f }
 {
     match f {
-        Field::OfPc => text::bytes(l, b"field pc\n"),
-        Field::OfCondition => text::bytes(l, b"field condition\n"),
-        Field::OfStates => text::bytes(l, b"field states\n"),
+        Field::OfPc => "field pc\n",
+        Field::OfCondition => "field condition\n",
+        Field::OfStates => "field states\n",
     }
 }
 
-fn hexed(mut l: Line, v: u32) -> Line
-    ensures { Adds l (ascii "0x" ++ hex_of false 2 v) result }
-{
-    l = text::put(l, b'0');
-    l = text::put(l, b'x');
-    text::hex2(l, false, v)
-}
-
-fn value(l: Line, f: Field, v: u32) -> Line
-    ensures { Adds l (value_text f v) result }
+fn value(l: &mut Line, f: Field, v: u32)
+    ensures { l.new ≡ added l.old (value_text f v) }
 {
     match f {
-        Field::OfPc => text::place(l, v),
-        Field::OfCondition => hexed(l, v),
-        Field::OfStates => text::decimal(l, v as u64),
+        Field::OfPc => l.place(v),
+        Field::OfCondition => {
+            l.text("0x");
+            l.hex(2, false, v);
+        }
+        Field::OfStates => l.decimal(u64::from(v)),
     }
 }
 
-fn differs_words(mut l: Line, n: u32, f: Field, here: u32, there: u32) -> Line
-    ensures { Adds l (differs_words n f here there) result }
+fn differs_words(l: &mut Line, n: u32, f: Field, here: u32, there: u32)
+    ensures { l.new ≡ added l.old (differs_words n f here there) }
 {
-    l = text::bytes(l, b"record ");
-    l = text::decimal(l, n as u64);
-    l = text::bytes(l, b" differs: ");
-    l = field_words(l, f);
-    l = value(l, f, here);
-    l = text::bytes(l, b" here and ");
-    l = value(l, f, there);
-    text::bytes(l, b" in the recording\n")
+    l.text("record ");
+    l.decimal(u64::from(n));
+    l.text(" differs: ");
+    l.text(field_words(f));
+    value(l, f, here);
+    l.text(" here and ");
+    value(l, f, there);
+    l.text(" in the recording\n");
 }
 
-fn differs_plain(mut l: Line, n: u32, f: Field, here: u32, there: u32) -> Line
-    ensures { Adds l (differs_plain n f here there) result }
+fn differs_plain(l: &mut Line, n: u32, f: Field, here: u32, there: u32)
+    ensures { l.new ≡ added l.old (differs_plain n f here there) }
 {
-    l = parts::number(l, b"record", n as u64);
-    l = field_name(l, f);
-    l = text::bytes(l, b"here ");
-    l = value(l, f, here);
-    l = text::bytes(l, b"\nrecorded ");
-    l = value(l, f, there);
-    text::put(l, b'\n')
+    parts::number(l, "record", u64::from(n));
+    l.text(field_name(f));
+    l.text("here ");
+    value(l, f, here);
+    l.text("\nrecorded ");
+    value(l, f, there);
+    l.byte(b'\n');
 }
 
 // Record n differs in a field: what it is here, and in the recording.
-pub fn differs(l: Line, n: u32, f: Field, here: u32, there: u32, plain: bool) -> Line
-    ensures { Adds l (differs_text n f here there plain) result }
+pub fn differs(l: &mut Line, n: u32, f: Field, here: u32, there: u32, plain: bool)
+    ensures { l.new ≡ added l.old (differs_text n f here there plain) }
 {
     if plain {
-        differs_plain(l, n, f, here, there)
+        differs_plain(l, n, f, here, there);
     } else {
-        differs_words(l, n, f, here, there)
+        differs_words(l, n, f, here, there);
     }
 }
 
-fn stands_plain(mut l: Line, rom: &[u8], p: u32) -> Line
-    ensures { Adds l (place_line (ascii "place") p ++ (ascii "text " ++ (stands_at rom.now p ++ ascii "\n"))) result }
+fn stands_plain(l: &mut Line, rom: &[u8], p: u32)
+    ensures { l.new ≡ added l.old (place_line (ascii "place") p ++ (ascii "text " ++ (stands_at rom.now p ++ ascii "\n"))) }
 {
-    l = parts::place(l, b"place", p);
-    l = text::bytes(l, b"text ");
-    l = wording::stands(l, rom, p);
-    text::put(l, b'\n')
+    parts::place(l, "place", p);
+    l.text("text ");
+    wording::stands(l, rom, p);
+    l.byte(b'\n');
 }
 
-fn stands_words(mut l: Line, rom: &[u8], p: u32) -> Line
-    ensures { Adds l (ascii "at " ++ (place_of p ++ (ascii " stands " ++ (stands_at rom.now p ++ ascii "\n")))) result }
+fn stands_words(l: &mut Line, rom: &[u8], p: u32)
+    ensures { l.new ≡ added l.old (ascii "at " ++ (place_of p ++ (ascii " stands " ++ (stands_at rom.now p ++ ascii "\n")))) }
 {
-    l = text::bytes(l, b"at ");
-    l = text::place(l, p);
-    l = text::bytes(l, b" stands ");
-    l = wording::stands(l, rom, p);
-    text::put(l, b'\n')
+    l.text("at ");
+    l.place(p);
+    l.text(" stands ");
+    wording::stands(l, rom, p);
+    l.byte(b'\n');
 }
 
 // What stands at PC.
-pub fn there(l: Line, rom: &[u8], p: u32, plain: bool) -> Line
-    ensures { Adds l (there_text rom.now p plain) result }
+pub fn there(l: &mut Line, rom: &[u8], p: u32, plain: bool)
+    ensures { l.new ≡ added l.old (there_text rom.now p plain) }
 {
     if plain {
-        stands_plain(l, rom, p)
+        stands_plain(l, rom, p);
     } else {
-        stands_words(l, rom, p)
+        stands_words(l, rom, p);
     }
 }
 
 // A refusal of a replay.
-pub fn stopped(l: Line, rom: &[u8], f: Refusal, plain: bool) -> Line
-    ensures { Adds l (stopped_text rom.now f plain) result }
+pub fn stopped(l: &mut Line, rom: &[u8], f: Refusal, plain: bool)
+    ensures { l.new ≡ added l.old (stopped_text rom.now f plain) }
 {
     if f.number() == 12 {
-        let a = parts::before(l, f, plain);
-        text::bytes(a, b"12: the recording has more than 1000000 records\n")
+        parts::before(l, f, plain);
+        l.text("12: the recording has more than 1000000 records\n");
     } else {
-        parts::refused(l, rom, f, plain)
+        parts::refused(l, rom, f, plain);
     }
 }

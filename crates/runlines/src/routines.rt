@@ -1,11 +1,12 @@
 // h8 run --routine: what h8 run says, and the endings of a routine's own run: a return, a ninth address, a return elsewhere.
+#![tactic(auto, using(text::proofs::Adding::added_append, text::proofs::Adding::padded), unfolding(text::specs::Lines::added, crate::specs::Routines::out_text, crate::specs::Routines::stopped_text, crate::specs::Routines::routine_held))]
+
 ghost use Rattle.std.specs.Prelude.{◌≡◌};
-ghost use Rattle.text.specs.Lines.{Adds};
-ghost use Rattle.runlines.specs.Routines.{kept_last, ninth_words, elsewhere_words, elsewhere_plain, ended_words, ended_plain, out_words, out_plain, out_text, was_begun, stopped_text, routine_text, routine_held};
+ghost use Rattle.text.specs.Lines.{added};
+ghost use Rattle.runlines.specs.Routines.{kept_last, ninth_words, elsewhere_words, elsewhere_plain, ended_words, ended_plain, out_words, out_plain, out_text, was_begun, routine_text, routine_held};
 
 use crate::runs;
 use crate::runs::Given;
-use refusal::Refusal;
 use routine::{Ending, RoutineAnswer};
 use text::Line;
 use wording::parts;
@@ -14,89 +15,83 @@ use wording::parts;
 fn kept_last(a: RoutineAnswer) -> u32
     ensures { result ≡ kept_last a }
 {
-    let k = a.kept;
-    let n = a.count as u64;
+    let n = a.kept.count as u64;
     let i = ((n + 7) % 8) as usize;
-    k[i]
+    a.kept.addresses[i]
 }
 
-fn ninth_words(mut l: Line, pc: u32) -> Line
-    ensures { Adds l (ninth_words pc) result }
+fn elsewhere_words(l: &mut Line, pc: u32, to: u32)
+    ensures { l.new ≡ added l.old (elsewhere_words pc to) }
 {
-    l = text::bytes(l, b"ended: before the call at ");
-    l = text::place(l, pc);
-    text::bytes(l, b", which would keep a ninth address\n")
+    l.text("ended: before the return at ");
+    l.place(pc);
+    l.text(", which would go elsewhere than to ");
+    l.place(to);
+    l.byte(b'\n');
 }
 
-fn elsewhere_words(mut l: Line, pc: u32, to: u32) -> Line
-    ensures { Adds l (elsewhere_words pc to) result }
+fn ninth_words(l: &mut Line, pc: u32)
+    ensures { l.new ≡ added l.old (ninth_words pc) }
 {
-    l = text::bytes(l, b"ended: before the return at ");
-    l = text::place(l, pc);
-    l = text::bytes(l, b", which would go elsewhere than to ");
-    l = text::place(l, to);
-    text::put(l, b'\n')
+    l.text("ended: before the call at ");
+    l.place(pc);
+    l.text(", which would keep a ninth address\n");
 }
 
-fn elsewhere_plain(l: Line, to: u32) -> Line
-    ensures { Adds l (elsewhere_plain to) result }
-{
-    let a = text::bytes(l, b"ended elsewhere\n");
-    parts::place(a, b"kept", to)
-}
-
-fn ended_words(l: Line, rom: &[u8], g: Given, e: Ending, pc: u32, to: u32) -> Line
-    ensures { Adds l (ended_words rom.now g e pc to) result }
+fn ended_words(l: &mut Line, rom: &[u8], g: Given, e: Ending, pc: u32, to: u32)
+    ensures { l.new ≡ added l.old (ended_words rom.now g e pc to) }
 {
     match e {
         Ending::AtStop => runs::stop_words(l, g.stop),
         Ending::Spent => runs::spent_words(l, g.budget),
         Ending::Halted(f) => runs::halted_words(l, rom, f),
-        Ending::Returned => text::bytes(l, b"ended: the routine has returned\n"),
+        Ending::Returned => l.text("ended: the routine has returned\n"),
         Ending::Ninth => ninth_words(l, pc),
         Ending::Elsewhere => elsewhere_words(l, pc, to),
     }
 }
 
-fn ended_plain(l: Line, rom: &[u8], e: Ending, to: u32) -> Line
-    ensures { Adds l (ended_plain rom.now e to) result }
+fn elsewhere_plain(l: &mut Line, to: u32)
+    ensures { l.new ≡ added l.old (elsewhere_plain to) }
+{
+    l.text("ended elsewhere\n");
+    parts::place(l, "kept", to);
+}
+
+fn ended_plain(l: &mut Line, rom: &[u8], e: Ending, to: u32)
+    ensures { l.new ≡ added l.old (ended_plain rom.now e to) }
 {
     match e {
-        Ending::AtStop => text::bytes(l, b"ended stop\n"),
-        Ending::Spent => text::bytes(l, b"ended budget\n"),
+        Ending::AtStop => l.text("ended stop\n"),
+        Ending::Spent => l.text("ended budget\n"),
         Ending::Halted(f) => runs::halted_plain(l, rom, f),
-        Ending::Returned => text::bytes(l, b"ended return\n"),
-        Ending::Ninth => text::bytes(l, b"ended ninth\n"),
+        Ending::Returned => l.text("ended return\n"),
+        Ending::Ninth => l.text("ended ninth\n"),
         Ending::Elsewhere => elsewhere_plain(l, to),
     }
 }
 
-fn out_words(l: Line, rom: &[u8], g: Given, a: RoutineAnswer) -> Line
-    ensures { Adds l (out_words rom.now g a) result }
+fn out_words(l: &mut Line, rom: &[u8], g: Given, a: RoutineAnswer)
+    ensures { l.new ≡ added l.old (out_words rom.now g a) }
 {
-    let e = a.why;
-    let r = a.regs;
-    let to = kept_last(a);
-    let b = runs::counts_words(l, g.entry, a.steps, a.states);
-    ended_words(b, rom, g, e, r.pc, to)
+    runs::counts_words(l, g.entry, a.steps, a.states);
+    ended_words(l, rom, g, a.why, a.regs.pc, kept_last(a));
 }
 
-fn out_plain(l: Line, rom: &[u8], a: RoutineAnswer) -> Line
-    ensures { Adds l (out_plain rom.now a) result }
+fn out_plain(l: &mut Line, rom: &[u8], a: RoutineAnswer)
+    ensures { l.new ≡ added l.old (out_plain rom.now a) }
 {
-    let e = a.why;
-    let to = kept_last(a);
-    let b = runs::counts_plain(l, a.steps, a.states);
-    ended_plain(b, rom, e, to)
+    runs::counts_plain(l, a.steps, a.states);
+    ended_plain(l, rom, a.why, kept_last(a));
 }
 
-fn out(l: Line, rom: &[u8], g: Given, a: RoutineAnswer, plain: bool) -> Line
-    ensures { Adds l (out_text rom.now g a plain) result }
+fn out(l: &mut Line, rom: &[u8], g: Given, a: RoutineAnswer, plain: bool)
+    ensures { l.new ≡ added l.old (out_text rom.now g a plain) }
 {
     if plain {
-        out_plain(l, rom, a)
+        out_plain(l, rom, a);
     } else {
-        out_words(l, rom, g, a)
+        out_words(l, rom, g, a);
     }
 }
 
@@ -104,49 +99,26 @@ fn was_begun(e: Ending) -> bool
     ensures { result ≡ was_begun e }
 {
     match e {
-        Ending::AtStop => true,
-        Ending::Spent => true,
         Ending::Halted(f) => runs::tried(f),
-        Ending::Returned => true,
-        Ending::Ninth => true,
-        Ending::Elsewhere => true,
-    }
-}
-
-fn stopped(l: Line, rom: &[u8], g: Given, a: RoutineAnswer, f: Refusal, plain: bool) -> Line
-    ensures { Adds l (stopped_text rom.now g a f plain) result }
-{
-    if runs::tried(f) {
-        out(l, rom, g, a, plain)
-    } else {
-        runs::wrong(l, g, f, plain)
+        _ => true,
     }
 }
 
 // How the run of a routine went.
-pub fn ran_out(l: Line, rom: &[u8], g: Given, a: RoutineAnswer, plain: bool) -> Line
-    ensures { Adds l (routine_text rom.now g a plain) result }
+pub fn ran_out(l: &mut Line, rom: &[u8], g: Given, a: RoutineAnswer, plain: bool)
+    ensures { l.new ≡ added l.old (routine_text rom.now g a plain) }
 {
-    let e = a.why;
-    match e {
-        Ending::AtStop => out(l, rom, g, a, plain),
-        Ending::Spent => out(l, rom, g, a, plain),
-        Ending::Halted(f) => stopped(l, rom, g, a, f, plain),
-        Ending::Returned => out(l, rom, g, a, plain),
-        Ending::Ninth => out(l, rom, g, a, plain),
-        Ending::Elsewhere => out(l, rom, g, a, plain),
+    match a.why {
+        Ending::Halted(f) if !runs::tried(f) => runs::wrong(l, g, f, plain),
+        _ => out(l, rom, g, a, plain),
     }
 }
 
 // The registers and flags that it leaves; nothing where nothing ran.
-pub fn out_registers(l: Line, a: RoutineAnswer, plain: bool) -> Line
-    ensures { Adds l (routine_held a plain) result }
+pub fn out_registers(l: &mut Line, a: RoutineAnswer, plain: bool)
+    ensures { l.new ≡ added l.old (routine_held a plain) }
 {
-    let r = a.regs;
-    let e = a.why;
-    if was_begun(e) {
-        runs::held(l, r, plain)
-    } else {
-        l
+    if was_begun(a.why) {
+        runs::held(l, a.regs, plain);
     }
 }

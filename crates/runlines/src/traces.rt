@@ -1,156 +1,119 @@
 // h8 run --trace: a step's place, text and states, and the data accesses that it made.
-ghost use Rattle.std.specs.Prelude.{◌≡◌, [], ◌∷◌};
-ghost use Rattle.watch.specs.Watch.{list_in};
-ghost use Rattle.text.specs.Lines.{none, Adds};
+#![tactic(auto, using(text::proofs::Adding::added_append, text::proofs::Adding::padded), unfolding(text::specs::Lines::added, crate::specs::Traces::access_text, crate::specs::Traces::stepped_text, crate::specs::Traces::end_text, crate::specs::Traces::traced_text, crate::specs::Traces::trace_heading))]
+
+ghost use Rattle.std.specs.Prelude.{◌≡◌, []};
+ghost use Rattle.text.specs.Lines.{added};
 ghost use Rattle.runlines.specs.Traces.{way_words, access_words, way_plain, access_plain, access_text, accesses_text, traced_words, traced_plain, stepped_text, end_text, traced_text, trace_heading};
 
-use memory::told::Access;
+use memory::told::{Access, Accesses};
 use text::Line;
-use watch::Listed;
 use wording::parts;
 
-fn way_words(mut l: Line, write: bool) -> Line
-    ensures { Adds l (way_words write) result }
+fn way_words(write: bool) -> &'static str
+    ensures { result.now ≡ way_words write }
 {
-    l = text::put(l, b' ');
-    l = text::put(l, b' ');
-    if write {
-        text::put(l, b'W')
-    } else {
-        text::put(l, b'R')
-    }
+    if write { "  W" } else { "  R" }
 }
 
-fn way_plain(l: Line, write: bool) -> Line
-    ensures { Adds l (way_plain write) result }
+fn way_plain(write: bool) -> &'static str
+    ensures { result.now ≡ way_plain write }
 {
-    if write {
-        text::bytes(l, b"write ")
-    } else {
-        text::bytes(l, b"read ")
-    }
+    if write { "write " } else { "read " }
 }
 
-fn access_words(mut l: Line, x: Access) -> Line
-    ensures { Adds l (access_words x) result }
+fn access_words(l: &mut Line, x: Access)
+    ensures { l.new ≡ added l.old (access_words x) }
 {
-    l = way_words(l, x.write);
-    l = text::decimal(l, x.bytes as u64);
-    l = text::put(l, b' ');
-    l = text::put(l, b'H');
-    l = text::put(l, b'\'');
-    text::hex6(l, true, x.place)
+    l.text(way_words(x.write));
+    l.decimal(u64::from(x.bytes));
+    l.text(" H'");
+    l.hex(6, true, x.place);
 }
 
-fn access_plain(mut l: Line, x: Access) -> Line
-    ensures { Adds l (access_plain x) result }
+fn access_plain(l: &mut Line, x: Access)
+    ensures { l.new ≡ added l.old (access_plain x) }
 {
-    l = way_plain(l, x.write);
-    l = text::decimal(l, x.bytes as u64);
-    l = text::put(l, b' ');
-    l = text::place(l, x.place);
-    text::put(l, b'\n')
+    l.text(way_plain(x.write));
+    l.decimal(u64::from(x.bytes));
+    l.byte(b' ');
+    l.place(x.place);
+    l.byte(b'\n');
 }
 
-fn one(l: Line, x: Access, plain: bool) -> Line
-    ensures { Adds l (access_text plain x) result }
+fn access(l: &mut Line, x: Access, plain: bool)
+    ensures { l.new ≡ added l.old (access_text plain x) }
 {
     if plain {
-        access_plain(l, x)
+        access_plain(l, x);
     } else {
-        access_words(l, x)
+        access_words(l, x);
     }
 }
 
-// The last two of them, and with one or two before them.
-fn last_two(mut l: Line, x: Access, y: Access, plain: bool) -> Line
-    ensures { Adds l (accesses_text plain (x ∷ y ∷ [])) result }
+fn accesses(l: &mut Line, list: &Accesses, plain: bool)
+    ensures { l.new ≡ added l.old (accesses_text plain list.now.items) }
 {
-    l = one(l, x, plain);
-    one(l, y, plain)
-}
-
-fn last_three(l: Line, x: Access, y: Access, z: Access, plain: bool) -> Line
-    ensures { Adds l (accesses_text plain (x ∷ y ∷ z ∷ [])) result }
-{
-    let a = one(l, x, plain);
-    last_two(a, y, z, plain)
-}
-
-fn last_four(l: Line, x: Access, y: Access, z: Access, t: Access, plain: bool) -> Line
-    ensures { Adds l (accesses_text plain (x ∷ y ∷ z ∷ t ∷ [])) result }
-{
-    let a = one(l, x, plain);
-    last_three(a, y, z, t, plain)
-}
-
-fn accesses(l: Line, q: Listed, plain: bool) -> Line
-    ensures { Adds l (accesses_text plain (list_in q)) result }
-{
-    match q {
-        Listed::Empty => l,
-        Listed::Solo(x) => one(l, x, plain),
-        Listed::Duo(x, y) => last_two(l, x, y, plain),
-        Listed::Trio(x, y, z) => last_three(l, x, y, z, plain),
-        Listed::Quartet(x, y, z, t) => last_four(l, x, y, z, t, plain),
+    for &x in list.as_slice() {
+        access(l, x, plain);
     }
 }
 
 fn in_words(rom: &[u8], p: u32, states: u32) -> Line
-    ensures { Adds none (traced_words rom.now p states) result }
+    ensures { result ≡ added [] (traced_words rom.now p states) }
 {
-    let mut l = text::blank();
-    l = text::place(l, p);
-    l = text::pad(l, 10);
-    l = wording::found_at(l, rom, p);
-    l = text::pad(l, 40);
-    text::decimal(l, states as u64)
+    let mut l = Line::new();
+    l.place(p);
+    l.pad(10);
+    wording::found_at(&mut l, rom, p);
+    l.pad(40);
+    l.decimal(u64::from(states));
+    l
 }
 
-fn in_names(mut l: Line, rom: &[u8], p: u32, states: u32) -> Line
-    ensures { Adds l (traced_plain rom.now p states) result }
+fn in_names(rom: &[u8], p: u32, states: u32) -> Line
+    ensures { result ≡ added [] (traced_plain rom.now p states) }
 {
-    l = parts::place(l, b"place", p);
-    l = text::bytes(l, b"text ");
-    l = wording::found_at(l, rom, p);
-    l = text::put(l, b'\n');
-    parts::number(l, b"states", states as u64)
+    let mut l = Line::new();
+    parts::place(&mut l, "place", p);
+    l.text("text ");
+    wording::found_at(&mut l, rom, p);
+    l.byte(b'\n');
+    parts::number(&mut l, "states", u64::from(states));
+    l
 }
 
 fn stepped(rom: &[u8], p: u32, states: u32, plain: bool) -> Line
-    ensures { Adds none (stepped_text rom.now p states plain) result }
+    ensures { result ≡ added [] (stepped_text rom.now p states plain) }
 {
     if plain {
-        in_names(text::blank(), rom, p, states)
+        in_names(rom, p, states)
     } else {
         in_words(rom, p, states)
     }
 }
 
-fn ended(l: Line, plain: bool) -> Line
-    ensures { Adds l (end_text plain) result }
+fn ended(l: &mut Line, plain: bool)
+    ensures { l.new ≡ added l.old (end_text plain) }
 {
-    if plain { l } else { text::put(l, b'\n') }
+    if !plain {
+        l.byte(b'\n');
+    }
 }
 
 // A completed step at the place p, with its states and its list.
-pub fn traced(rom: &[u8], p: u32, states: u32, q: Listed, plain: bool) -> Line
-    ensures { Adds none (traced_text rom.now p states (list_in q) plain) result }
+pub fn traced(rom: &[u8], p: u32, states: u32, list: &Accesses, plain: bool) -> Line
+    ensures { result ≡ added [] (traced_text rom.now p states list.now.items plain) }
 {
     let mut l = stepped(rom, p, states, plain);
-    l = accesses(l, q, plain);
-    ended(l, plain)
+    accesses(&mut l, list, plain);
+    ended(&mut l, plain);
+    l
 }
 
-pub fn trace_heading(l: Line, plain: bool) -> Line
-    ensures { Adds l (trace_heading plain) result }
+pub fn trace_heading(l: &mut Line, plain: bool)
+    ensures { l.new ≡ added l.old (trace_heading plain) }
 {
-    if plain {
-        l
-    } else {
-        text::bytes(
-            l,
-            b"place     text                          states, reads and writes\n",
-        )
+    if !plain {
+        l.text("place     text                          states, reads and writes\n");
     }
 }

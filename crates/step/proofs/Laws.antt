@@ -1,5 +1,6 @@
 -- What a step can come to, and the laws that follow: a refused step changes nothing; a completed one adds exactly its instruction's states, sets PC to
 -- where the instruction goes, and keeps registers and memory in range. Assumes nothing.
+use Rattle.std.specs.Prelude.{Result, Ok, Err, Option, Some, None, Bool}
 use Prim.Native.Nat.{ℕ, ◌≤◌}
 use mathlib.Core.Path.{◌≡◌, refl}
 use mathlib.Core.Bool.{Bool, true, false}
@@ -8,31 +9,23 @@ use native.Mathlib.Omega.{arith}
 use lib.Dec.{ltb}
 use lib.ListN.{length, drop}
 use borrow.Author.Tests.{eq-eqb, lt-ltb}
-use Rattle.arith.specs.declared.Adjust.{Adjust}
-use Rattle.arith.specs.declared.Adjust.TheVariants.{Adding, NoRow}
 use mathlib.Core.Logic.{inl, inr}
+use Rattle.arith.specs.declared.Moved.{Moved}
 use Rattle.refusal.specs.Refusals.{number_of}
 use Rattle.machine.specs.Machine.{ByData}
 use Rattle.refusal.specs.declared.Refusal.{Refusal}
 use Rattle.refusal.specs.declared.Refusal.TheVariants.{BadBoard, FetchOutside, NoAdjustRow, DivideFails}
-use Rattle.refusal.specs.declared.Outcome.TheVariants.{Done, Refused}
 use Rattle.registers.specs.declared.Registers.{Registers}
 use Rattle.registers.specs.Parts.{with_pc}
 use Rattle.registers.proofs.Kept.{Whole, whole_part, whole_condition, whole_pc, pc_even}
 use Rattle.memory.specs.Board.{good_board}
 use Rattle.memory.specs.Access.{write_of}
 use Rattle.memory.specs.declared.Board.{Board}
-use Rattle.memory.specs.declared.Got.{Got}
-use Rattle.memory.specs.declared.Got.TheVariants.{Value, NotRead}
-use Rattle.memory.specs.declared.Put.{Put}
-use Rattle.memory.specs.declared.Put.TheVariants.{Stored, NotStored}
 use Rattle.memory.proofs.Laws.{read_number, write_left, write_number, write_length}
 use Rattle.operate.specs.Operate.{adjusted_of, decimal_of, carried_of}
 use Rattle.operate.specs.Results.{did, refused}
 use Rattle.multiply.specs.Multiply.{divided_of, divide_of}
 use Rattle.products.specs.declared.Half.{Half}
-use Rattle.products.specs.declared.Division.{Division}
-use Rattle.products.specs.declared.Division.TheVariants.{Divided, Fails}
 use Rattle.bitwork.specs.Bitwork.{took_from, takes_at, gave_to, gives_at, takes_of, gives_of}
 use Rattle.timing.proofs.Few.{most_few}
 use Rattle.moves.specs.Made.{states_at}
@@ -60,8 +53,6 @@ use Rattle.codes.specs.declared.Instruction.{Instruction}
 use Rattle.codes.specs.declared.Instruction.TheVariants.{Nop, Stc, LdcReg, Ccr, Alu, IncDec, AddsSubs, Decimal, Shift, Unary, Multiply, Divide, Takes, Gives, Move, Bcc, Jmp, Bsr, Jsr, Rts}
 use Rattle.codes.specs.declared.Goes.{Goes}
 use Rattle.codes.specs.declared.Goes.TheVariants.{Onward, Branches, Jumps, CallsNear, Calls, Returns}
-use Rattle.codes.specs.declared.Decoded.{Decoded}
-use Rattle.codes.specs.declared.Decoded.TheVariants.{Code, NoCode}
 use Rattle.codes.specs.declared.Way.TheVariants.{Up, Down}
 
 -- what an instruction does to registers r and working memory ram: it is done, or refused by its data, and then nothing changed
@@ -70,32 +61,32 @@ pub data Done-or-not (r : Registers) (ram : List ℕ) : Stepped → Type 0 where
   not_done : (f : Refusal) → ByData f → Done-or-not r ram (stepped (refused r f) ram)
 
 module _ (r : Registers) (b : Board) (rom ram : List ℕ) where
-  load_view : (w : Width) (d : ℕ) (raised : Registers) → (Whole r → Whole raised) → (g : Got) → ((f : Refusal) → g ≡ NotRead f → number_of f ≡ 5)
+  load_view : (w : Width) (d : ℕ) (raised : Registers) → (Whole r → Whole raised) → (g : Result ℕ Refusal) → ((f : Refusal) → g ≡ Err f → number_of f ≡ 5)
       → Done-or-not r ram (stepped (loaded_of g w d r raised) ram)
   unfolding loaded_of
-  load_view w d raised h (Value x) five = done _ ram refl (λ i. whole_condition _ _ (whole_part w raised d _ (h i)))
-  load_view w d raised h (NotRead f) five = not_done f (inl (five f refl))
+  load_view w d raised h (Ok x) five = done _ ram refl (λ i. whole_condition _ _ (whole_part w raised d _ (h i)))
+  load_view w d raised h (Err f) five = not_done f (inl (five f refl))
 
-  store_view : (w : Width) (a x : ℕ) (q : Registers) → (Whole r → Whole q) → (p : Put) → (write_of w b ram a x).put ≡ p
+  store_view : (w : Width) (a x : ℕ) (q : Registers) → (Whole r → Whole q) → (p : Result (Unit {0}) Refusal) → (write_of w b ram a x).put ≡ p
       → Done-or-not r ram (stepped (stored_of (write_of w b ram a x).put r q) (write_of w b ram a x).mem)
   unfolding stored_of
-  store_view w a x q h Stored e = rw e (done q (write_of w b ram a x).mem (write_length w b ram a x) h)
-  store_view w a x q h (NotStored f) e = rw (e, write_left w b ram a x f e) (not_done f (inr (inl (write_number w b ram a x f e))))
+  store_view w a x q h (Ok tt) e = rw e (done q (write_of w b ram a x).mem (write_length w b ram a x) h)
+  store_view w a x q h (Err f) e = rw (e, write_left w b ram a x f e) (not_done f (inr (inl (write_number w b ram a x f e))))
 
-  adjust_view : (a : Adjust) (x d : ℕ) → Done-or-not r ram (stepped (adjusted_of a x d r) ram)
+  adjust_view : (a : Option (ℕ × Bool)) (x d : ℕ) → Done-or-not r ram (stepped (adjusted_of a x d r) ram)
   unfolding adjusted_of
-  adjust_view (Adding v c) x d = done _ ram refl (whole_added v c x d r)
-  adjust_view NoRow x d = not_done (NoAdjustRow r.pc) (inr (inr (inl refl)))
+  adjust_view (Some (v, c)) x d = done _ ram refl (whole_added v c x d r)
+  adjust_view None x d = not_done (NoAdjustRow r.pc) (inr (inr (inl refl)))
 
-  divide_view : (q : Division) (h : Half) (d : ℕ) → Done-or-not r ram (stepped (divided_of q h d r) ram)
+  divide_view : (q : Option Moved) (h : Half) (d : ℕ) → Done-or-not r ram (stepped (divided_of q h d r) ram)
   unfolding divided_of
-  divide_view (Divided x) h d = done _ ram refl (whole_put h d r x)
-  divide_view Fails h d = not_done (DivideFails r.pc) (inr (inr (inr refl)))
+  divide_view (Some x) h d = done _ ram refl (whole_put h d r x)
+  divide_view None h d = not_done (DivideFails r.pc) (inr (inr (inr refl)))
 
-  took_view : (take : Take) (index : Index) (g : Got) → ((f : Refusal) → g ≡ NotRead f → number_of f ≡ 5) → Done-or-not r ram (stepped (took_from g take index r) ram)
+  took_view : (take : Take) (index : Index) (g : Result ℕ Refusal) → ((f : Refusal) → g ≡ Err f → number_of f ≡ 5) → Done-or-not r ram (stepped (took_from g take index r) ram)
   unfolding took_from
-  took_view take index (Value x) five = done _ ram refl (whole_took take index x r)
-  took_view take index (NotRead f) five = not_done f (inl (five f refl))
+  took_view take index (Ok x) five = done _ ram refl (whole_took take index x r)
+  took_view take index (Err f) five = not_done f (inl (five f refl))
 
   takes_view : (take : Take) (index : Index) (spot : Spot) → Done-or-not r ram (stepped (takes_of take index spot r b rom ram) ram)
   unfolding takes_of takes_at
@@ -103,10 +94,10 @@ module _ (r : Registers) (b : Board) (rom ram : List ℕ) where
   takes_view take index (AtEr e) = took_view take index _ (λ f h. read_number Byte b rom ram _ f h)
   takes_view take index (AtAbs a) = took_view take index _ (λ f h. read_number Byte b rom ram _ f h)
 
-  gave_view : (give : Give) (index : Index) (a : ℕ) (g : Got) → ((f : Refusal) → g ≡ NotRead f → number_of f ≡ 5) → Done-or-not r ram (gave_to g give index a r b ram)
+  gave_view : (give : Give) (index : Index) (a : ℕ) (g : Result ℕ Refusal) → ((f : Refusal) → g ≡ Err f → number_of f ≡ 5) → Done-or-not r ram (gave_to g give index a r b ram)
   unfolding gave_to
-  gave_view give index a (Value x) five = store_view Byte a _ r (λ h. h) _ refl
-  gave_view give index a (NotRead f) five = not_done f (inl (five f refl))
+  gave_view give index a (Ok x) five = store_view Byte a _ r (λ h. h) _ refl
+  gave_view give index a (Err f) five = not_done f (inl (five f refl))
 
   gives_view : (give : Give) (index : Index) (spot : Spot) → Done-or-not r ram (gives_of give index spot r b rom ram)
   unfolding gives_of gives_at
@@ -146,13 +137,13 @@ module _ (r : Registers) (b : Board) (rom ram : List ℕ) where
   effect_view next (Jsr target) = push_view next
   effect_view next Rts = done _ ram refl (whole_carried Up 4 7 r)
 
-  aim_five : (t : Target) (f : Refusal) → aim_of r b rom ram t ≡ NotRead f → number_of f ≡ 5
+  aim_five : (t : Target) (f : Refusal) → aim_of r b rom ram t ≡ Err f → number_of f ≡ 5
   unfolding aim_of
   aim_five (ByReg e) f h = let z : ◌≡◌ {A = ℕ} 0 1 = cc in absurd (omega arith)
   aim_five (Direct a) f h = let z : ◌≡◌ {A = ℕ} 0 1 = cc in absurd (omega arith)
   aim_five (Vector a) f h = read_number Long b rom ram a f h
 
-  follow_five : (g : Goes) (next : ℕ) (f : Refusal) → follow_of r b rom ram g next ≡ NotRead f → number_of f ≡ 5
+  follow_five : (g : Goes) (next : ℕ) (f : Refusal) → follow_of r b rom ram g next ≡ Err f → number_of f ≡ 5
   unfolding follow_of
   follow_five Onward next f h = let z : ◌≡◌ {A = ℕ} 0 1 = cc in absurd (omega arith)
   follow_five (Branches c reach) next f h = let z : ◌≡◌ {A = ℕ} 0 1 = cc in absurd (omega arith)
@@ -164,33 +155,33 @@ module _ (r : Registers) (b : Board) (rom ram : List ℕ) where
   -- what a step on a right board comes to
   pub data Comes : After → Type 0 where
     outside : ltb r.pc (length rom) ≡ false → Comes (after (stays r (FetchOutside r.pc)) ram)
-    no_code : (f : Refusal) → ltb r.pc (length rom) ≡ true → decode_of r.pc (drop r.pc rom) ≡ NoCode f → Comes (after (stays r f) ram)
-    by_data : (i : Instruction) (n : ℕ) (f : Refusal) → ltb r.pc (length rom) ≡ true → decode_of r.pc (drop r.pc rom) ≡ Code i n → ByData f
+    no_code : (f : Refusal) → ltb r.pc (length rom) ≡ true → decode_of r.pc (drop r.pc rom) ≡ Err f → Comes (after (stays r f) ram)
+    by_data : (i : Instruction) (n : ℕ) (f : Refusal) → ltb r.pc (length rom) ≡ true → decode_of r.pc (drop r.pc rom) ≡ Ok (i, n) → ByData f
         → Comes (after (stays r f) ram)
-    completes : (i : Instruction) (n p : ℕ) (q : Registers) (m : List ℕ) → ltb r.pc (length rom) ≡ true → decode_of r.pc (drop r.pc rom) ≡ Code i n
-        → follow_of r b rom ram (goes_of i) (next_of r.pc n) ≡ Value p → effect_of (next_of r.pc n) r b rom ram i ≡ stepped (did q) m
-        → length m ≡ length ram → (Whole r → Whole q) → Comes (after (answered (with_pc q p) (states_at b.site r i) Done) m)
+    completes : (i : Instruction) (n p : ℕ) (q : Registers) (m : List ℕ) → ltb r.pc (length rom) ≡ true → decode_of r.pc (drop r.pc rom) ≡ Ok (i, n)
+        → follow_of r b rom ram (goes_of i) (next_of r.pc n) ≡ Ok p → effect_of (next_of r.pc n) r b rom ram i ≡ stepped (did q) m
+        → length m ≡ length ram → (Whole r → Whole q) → Comes (after (answered (with_pc q p) (states_at b.site r i) (Ok tt)) m)
 
-  module _ (i : Instruction) (n : ℕ) (l : ltb r.pc (length rom) ≡ true) (d : decode_of r.pc (drop r.pc rom) ≡ Code i n) where
-    finished : (p : ℕ) → follow_of r b rom ram (goes_of i) (next_of r.pc n) ≡ Value p → (s : Stepped) → effect_of (next_of r.pc n) r b rom ram i ≡ s
+  module _ (i : Instruction) (n : ℕ) (l : ltb r.pc (length rom) ≡ true) (d : decode_of r.pc (drop r.pc rom) ≡ Ok (i, n)) where
+    finished : (p : ℕ) → follow_of r b rom ram (goes_of i) (next_of r.pc n) ≡ Ok p → (s : Stepped) → effect_of (next_of r.pc n) r b rom ram i ≡ s
         → Done-or-not r ram s → Comes (after (finish_of s.effect.outcome r s.effect.regs p (states_at b.site r i)) s.mem)
     unfolding finish_of
     finished p g s e (done q m k h) = completes i n p q m l d g e k h
     finished p g s e (not_done f h) = by_data i n f l d h
 
-    carried : (g : Got) → follow_of r b rom ram (goes_of i) (next_of r.pc n) ≡ g → Comes (carry_of g i (next_of r.pc n) r b rom ram)
+    carried : (g : Result ℕ Refusal) → follow_of r b rom ram (goes_of i) (next_of r.pc n) ≡ g → Comes (carry_of g i (next_of r.pc n) r b rom ram)
     unfolding carry_of
-    carried (Value p) e = finished p e _ refl (effect_view (next_of r.pc n) i)
-    carried (NotRead f) e = by_data i n f l d (inl (follow_five (goes_of i) (next_of r.pc n) f e))
+    carried (Ok p) e = finished p e _ refl (effect_view (next_of r.pc n) i)
+    carried (Err f) e = by_data i n f l d (inl (follow_five (goes_of i) (next_of r.pc n) f e))
 
     obeyed : Comes (obey_of i n r b rom ram)
     unfolding obey_of
     obeyed = carried _ refl
 
-  acted : ltb r.pc (length rom) ≡ true → (d : Decoded) → decode_of r.pc (drop r.pc rom) ≡ d → Comes (act_of d r b rom ram)
+  acted : ltb r.pc (length rom) ≡ true → (d : Result (Instruction × ℕ) Refusal) → decode_of r.pc (drop r.pc rom) ≡ d → Comes (act_of d r b rom ram)
   unfolding act_of
-  acted l (Code i n) e = obeyed i n l e
-  acted l (NoCode f) e = no_code f l e
+  acted l (Ok (i, n)) e = obeyed i n l e
+  acted l (Err f) e = no_code f l e
 
   fetched : (t : Bool) → ltb r.pc (length rom) ≡ t → Comes (fetch_of r b rom ram)
   unfolding fetch_of
@@ -202,7 +193,7 @@ module _ (r : Registers) (b : Board) (rom ram : List ℕ) where
 
 module _ (r : Registers) (b : Board) (rom ram : List ℕ) where
   -- a refused step changes nothing, and adds no states
-  refused_stays : (a : After) → Comes r b rom ram a → (f : Refusal) → a.answer.outcome ≡ Refused f → a ≡ after (stays r f) ram
+  refused_stays : (a : After) → Comes r b rom ram a → (f : Refusal) → a.answer.outcome ≡ Err f → a ≡ after (stays r f) ram
   refused_stays a (outside l) f e = let h : FetchOutside r.pc ≡ f = cc in rw h
   refused_stays a (no_code g l d) f e = let h : g ≡ f = cc in rw h
   refused_stays a (by_data i n g l d k) f e = let h : g ≡ f = cc in rw h
@@ -214,7 +205,7 @@ module _ (r : Registers) (b : Board) (rom ram : List ℕ) where
     pub whole : Whole r → Whole a.answer.regs
     pub length_stays : length a.mem ≡ length ram
 
-  done_keeps : (a : After) → Comes r b rom ram a → a.answer.outcome ≡ Done → Kept a
+  done_keeps : (a : After) → Comes r b rom ram a → a.answer.outcome ≡ Ok tt → Kept a
   done_keeps a (outside l) e = let z : ◌≡◌ {A = ℕ} 0 1 = cc in absurd (omega arith)
   done_keeps a (no_code g l d) e = let z : ◌≡◌ {A = ℕ} 0 1 = cc in absurd (omega arith)
   done_keeps a (by_data i n g l d k) e = let z : ◌≡◌ {A = ℕ} 0 1 = cc in absurd (omega arith)
@@ -226,14 +217,14 @@ module _ (r : Registers) (b : Board) (rom ram : List ℕ) where
         length_stays = k;
       }
 
-  stepped_by : (t : Bool) → good_start b rom ram r ≡ t → (f : Refusal) → (step_of b rom ram r).answer.outcome ≡ Refused f
+  stepped_by : (t : Bool) → good_start b rom ram r ≡ t → (f : Refusal) → (step_of b rom ram r).answer.outcome ≡ Err f
       → step_of b rom ram r ≡ after (stays r f) ram
   unfolding step_of
   stepped_by true t f e = rw t (refused_stays _ (comes r b rom ram) f (rw t at e))
   stepped_by false t f e = let k = rw t at e in let h : BadBoard ≡ f = cc in rw (t, h)
 
   -- on any board
-  pub step_refused : (f : Refusal) → (step_of b rom ram r).answer.outcome ≡ Refused f → step_of b rom ram r ≡ after (stays r f) ram
+  pub step_refused : (f : Refusal) → (step_of b rom ram r).answer.outcome ≡ Err f → step_of b rom ram r ≡ after (stays r f) ram
   step_refused f e = stepped_by _ refl f e
 
   -- on a right board, from a PC that can be, a step is the inner step
@@ -241,10 +232,10 @@ module _ (r : Registers) (b : Board) (rom ram : List ℕ) where
   unfolding step_of
   step_is g p = rw (g, p)
 
-  pub fetch_keeps : (fetch_of r b rom ram).answer.outcome ≡ Done → Kept (fetch_of r b rom ram)
+  pub fetch_keeps : (fetch_of r b rom ram).answer.outcome ≡ Ok tt → Kept (fetch_of r b rom ram)
   fetch_keeps e = done_keeps _ (comes r b rom ram) e
 
-  pub fetch_refused : (f : Refusal) → (fetch_of r b rom ram).answer.outcome ≡ Refused f → fetch_of r b rom ram ≡ after (stays r f) ram
+  pub fetch_refused : (f : Refusal) → (fetch_of r b rom ram).answer.outcome ≡ Err f → fetch_of r b rom ram ≡ after (stays r f) ram
   fetch_refused f e = refused_stays _ (comes r b rom ram) f e
 
   few : (a : After) → Comes r b rom ram a → a.answer.states ≤ 32

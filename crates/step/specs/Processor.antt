@@ -1,11 +1,9 @@
 -- The processor as a machine whose step is `step_of`, for all that is said of runs.
-use Rattle.std.specs.Prelude.{◌≡◌, List, ℕ, drop}
-use Rattle.refusal.specs.declared.Outcome.TheVariants.{Done}
+use Rattle.std.specs.Prelude.{◌≡◌, List, ℕ, drop, Ok}
 use Rattle.codes.specs.States.{goes_of}
 use Rattle.codes.specs.declared.Instruction.{Instruction}
 use Rattle.codes.specs.declared.Goes.{Goes}
 use Rattle.codes.specs.declared.Goes.TheVariants.{Onward, Branches, Jumps, CallsNear, Calls, Returns}
-use Rattle.codes.specs.declared.Decoded.TheVariants.{Code}
 use Rattle.flow.specs.Targets.{next_of}
 use Rattle.decoder.specs.MirrorDecode.{decode_of}
 use Rattle.registers.specs.declared.Registers.{Registers}
@@ -33,11 +31,11 @@ processor b rom =
     record {
       State = State;
       pc = λ s. s.regs.pc;
-      Does = λ s t n. step_of b rom s.mem s.regs ≡ after (answered t.regs n Done) t.mem;
+      Does = λ s t n. step_of b rom s.mem s.regs ≡ after (answered t.regs n (Ok tt)) t.mem;
       Refuses = λ s f. step_of b rom s.mem s.regs ≡ after (stays s.regs f) s.mem;
       AtReturn = λ s.
-          (i : Instruction) × (n : ℕ) × (decode_of s.regs.pc (drop s.regs.pc rom) ≡ Code i n) × (goes_of i ≡ Returns);
+          (i : Instruction) × (n : ℕ) × (decode_of s.regs.pc (drop s.regs.pc rom) ≡ Ok (i, n)) × (goes_of i ≡ Returns);
       Pushes = λ s k.
-          (i : Instruction) × (n : ℕ) × (decode_of s.regs.pc (drop s.regs.pc rom) ≡ Code i n) × Calling (goes_of i) × (k ≡ next_of s.regs.pc n);
+          (i : Instruction) × (n : ℕ) × (decode_of s.regs.pc (drop s.regs.pc rom) ≡ Ok (i, n)) × Calling (goes_of i) × (k ≡ next_of s.regs.pc n);
       Leaves = λ s e. ⊥;
     }

@@ -1,16 +1,12 @@
 -- One step: what each instruction does to registers and memory, its states, and every refusal in document 01's order.
-use Rattle.std.specs.Prelude.{ℕ, ◌%◌, ◌^◌, Bool, cond, ◌&&◌, List, eqb, ltb, length, drop}
+use Rattle.std.specs.Prelude.{ℕ, ◌%◌, ◌^◌, Bool, cond, ◌&&◌, List, eqb, ltb, length, drop, Result, Ok, Err}
 use Rattle.arith.specs.declared.Width.{Width}
 use Rattle.refusal.specs.declared.Refusal.{Refusal}
 use Rattle.refusal.specs.declared.Refusal.TheVariants.{BadBoard, FetchOutside}
-use Rattle.refusal.specs.declared.Outcome.{Outcome}
-use Rattle.refusal.specs.declared.Outcome.TheVariants.{Done, Refused}
 use Rattle.registers.specs.declared.Registers.{Registers}
 use Rattle.registers.specs.Parts.{with_pc}
 use Rattle.memory.specs.Board.{good_board}
 use Rattle.memory.specs.declared.Board.{Board}
-use Rattle.memory.specs.declared.Got.{Got}
-use Rattle.memory.specs.declared.Got.TheVariants.{Value, NotRead}
 use Rattle.operate.specs.Operate.{stc_of, ldc_of, ccr_of, alu_of, inc_dec_of, adds_subs_of, decimal_of, shift_of, unary_of}
 use Rattle.operate.specs.Results.{did}
 use Rattle.multiply.specs.Multiply.{multiply_of, divide_of}
@@ -27,8 +23,6 @@ use Rattle.codes.specs.declared.Dir.TheVariants.{Load, Store}
 use Rattle.codes.specs.declared.Place.{Place}
 use Rattle.codes.specs.declared.Instruction.{Instruction}
 use Rattle.codes.specs.declared.Instruction.TheVariants.{Nop, Stc, LdcReg, Ccr, Alu, IncDec, AddsSubs, Decimal, Shift, Unary, Multiply, Divide, Takes, Gives, Move, Bcc, Jmp, Bsr, Jsr, Rts}
-use Rattle.codes.specs.declared.Decoded.{Decoded}
-use Rattle.codes.specs.declared.Decoded.TheVariants.{Code, NoCode}
 
 -- what an instruction does; `next` is the address of the next one, and PC is none of it
 module _ (next : ℕ) (r : Registers) (b : Board) (rom ram : List ℕ) where
@@ -66,33 +60,33 @@ pub record After : Type 0 where
 abbrev pub after : StepAnswer → List ℕ → After
 after a m = record { answer = a; mem = m }
 
-abbrev pub answered : Registers → ℕ → Outcome → StepAnswer
+abbrev pub answered : Registers → ℕ → Result (Unit {0}) Refusal → StepAnswer
 answered r n o = record { regs = r; states = n; outcome = o }
 
 -- a refused step leaves the registers as they were and adds no states
 abbrev pub stays : Registers → Refusal → StepAnswer
-stays r f = answered r 0 (Refused f)
+stays r f = answered r 0 (Err f)
 
 -- the registers q after an instruction, with PC set to p
-unfoldable pub finish_of : Outcome → Registers → Registers → ℕ → ℕ → StepAnswer
-finish_of Done r q p n = answered (with_pc q p) n Done
-finish_of (Refused f) r q p n = stays r f
+unfoldable pub finish_of : Result (Unit {0}) Refusal → Registers → Registers → ℕ → ℕ → StepAnswer
+finish_of (Ok tt) r q p n = answered (with_pc q p) n (Ok tt)
+finish_of (Err f) r q p n = stays r f
 
 -- first where PC goes, so that 5 is looked for before 6; then what the instruction does
-unfoldable pub carry_of : Got → Instruction → ℕ → Registers → Board → List ℕ → List ℕ → After
-carry_of (Value p) i next r b rom ram =
+unfoldable pub carry_of : Result ℕ Refusal → Instruction → ℕ → Registers → Board → List ℕ → List ℕ → After
+carry_of (Ok p) i next r b rom ram =
     let s = effect_of next r b rom ram i in
     after (finish_of s.effect.outcome r s.effect.regs p (states_at b.site r i)) s.mem
-carry_of (NotRead f) i next r b rom ram = after (stays r f) ram
+carry_of (Err f) i next r b rom ram = after (stays r f) ram
 
 unfoldable pub obey_of : Instruction → ℕ → Registers → Board → List ℕ → List ℕ → After
 obey_of i n r b rom ram =
     let next = next_of r.pc n in
     carry_of (follow_of r b rom ram (goes_of i) next) i next r b rom ram
 
-unfoldable pub act_of : Decoded → Registers → Board → List ℕ → List ℕ → After
-act_of (Code i n) r b rom ram = obey_of i n r b rom ram
-act_of (NoCode f) r b rom ram = after (stays r f) ram
+unfoldable pub act_of : Result (Instruction × ℕ) Refusal → Registers → Board → List ℕ → List ℕ → After
+act_of (Ok (i, n)) r b rom ram = obey_of i n r b rom ram
+act_of (Err f) r b rom ram = after (stays r f) ram
 
 -- a step on a right board from a PC that can be: 2, then 3 or 4, then the instruction
 unfoldable pub fetch_of : Registers → Board → List ℕ → List ℕ → After

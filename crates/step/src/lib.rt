@@ -5,15 +5,15 @@ ghost use Rattle.std.specs.Prelude.{◌≡◌};
 ghost use Rattle.step.specs.Follow.{even_condition, holds_of};
 ghost use Rattle.step.specs.Step.{good_pc};
 
-use refusal::Outcome;
+use refusal::Refusal;
 use registers::{Condition, Registers};
 
 // The registers after a step, its states, and whether it was refused.
-#[derive(Clone, Copy)]
+#[derive(Clone, Copy, Debug, PartialEq, Eq)]
 pub struct StepAnswer {
     pub regs: Registers,
     pub states: u32,
-    pub outcome: Outcome,
+    pub outcome: Result<(), Refusal>,
 }
 
 // The condition of an even digit, by half of it.

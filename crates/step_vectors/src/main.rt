@@ -5,7 +5,6 @@
 #![tactic(auto)]
 
 use memory::Board;
-use refusal::{Outcome, Refusal};
 use registers::{Condition, Registers};
 use std::io;
 use step::StepAnswer;
@@ -257,316 +256,165 @@ const EDGES: [u32; 8] = [
     0x00000000, 0x00000001, 0x7FFFFFFF, 0x80000000, 0xFFFFFFFF, 0x0FFF1000, 0x80007FFF, 0x7F80FF01,
 ];
 
+// Working memory of the forms: FFFFF0 to FFFFFF.
 const BASE: u32 = 0xFFFFF0;
 
 // Made numbers: of 16 bits, and of 32.
-fn mix(n: u32) -> u32 {
+fn mix(n: u32) -> u16 {
     let a = (n % 65537 * 40503 + 2) % 65537;
     let b = (a ^ (a / 64)) % 65537;
-    b * 49297 / 128 % 65536
+    (b * 49297 / 128 % 65536) as u16
 }
 
 fn number(n: u32) -> u32 {
     let twice = n % 65536 * 2;
-    mix(twice) % 65536 * 65536 + mix(twice + 1) % 65536
+    u32::from(mix(twice)) * 65536 + u32::from(mix(twice + 1))
 }
 
-fn show_long(rt: &impl Print, x: u32) -> io::Result<()> {
-    print!(rt; " {x:08x}")
+fn byte(x: u32) -> u8 {
+    (x % 256) as u8
 }
 
-fn show_general(rt: &impl Print, er: [u32; 8]) -> io::Result<()> {
-    show_long(rt, er[0])?;
-    show_long(rt, er[1])?;
-    show_long(rt, er[2])?;
-    show_long(rt, er[3])?;
-    show_long(rt, er[4])?;
-    show_long(rt, er[5])?;
-    show_long(rt, er[6])?;
-    show_long(rt, er[7])
-}
-
-fn show_change(rt: &impl Print, digit: u64, before: u32, after: u32) -> io::Result<()> {
-    if before != after {
-        print!(rt; " ER{digit}")?;
-        show_long(rt, after)?;
+// Made bytes.
+fn made<const N: usize>(first: u32) -> [u8; N] {
+    let mut bytes = [0; N];
+    for (n, made) in (first..).zip(bytes.iter_mut()) {
+        *made = byte(mix(n).into());
     }
-    Ok(())
-}
-
-fn show_changes(rt: &impl Print, a: [u32; 8], b: [u32; 8]) -> io::Result<()> {
-    show_change(rt, 0, a[0], b[0])?;
-    show_change(rt, 1, a[1], b[1])?;
-    show_change(rt, 2, a[2], b[2])?;
-    show_change(rt, 3, a[3], b[3])?;
-    show_change(rt, 4, a[4], b[4])?;
-    show_change(rt, 5, a[5], b[5])?;
-    show_change(rt, 6, a[6], b[6])?;
-    show_change(rt, 7, a[7], b[7])
+    bytes
 }
 
 fn show_control(rt: &impl Print, r: Registers) -> io::Result<()> {
-    let f = r.condition;
-    let b = f.byte();
-    print!(rt; " PC {:06x} CCR {b:02x}", r.pc)
+    print!(rt; " PC {:06x} CCR {:02x}", r.pc, u8::from(r.condition))
 }
 
-fn show_byte(rt: &impl Print, x: u8) -> io::Result<()> {
-    print!(rt; "{x:02x}")
+fn show_before(rt: &impl Print, r: Registers) -> io::Result<()> {
+    for er in &r.er {
+        print!(rt; " {er:08x}")?;
+    }
+    show_control(rt, r)
+}
+
+// A refused step has no states.
+fn show_answer(rt: &impl Print, before: Registers, answer: StepAnswer) -> io::Result<()> {
+    match answer.outcome {
+        Ok(()) => print!(rt; ": {} states", answer.states)?,
+        Err(refusal) => print!(rt; ": refused {} at {:06x}", refusal.number(), refusal.place())?,
+    }
+    for (digit, (old, new)) in before.er.iter().zip(&answer.regs.er).enumerate() {
+        if new != old {
+            print!(rt; " ER{digit} {new:08x}")?;
+        }
+    }
+    show_control(rt, answer.regs)
 }
 
 fn show_ram(rt: &impl Print, ram: &[u8]) -> io::Result<()> {
     print!(rt; " RAM ")?;
-    for i in 0..ram.len() {
-        show_byte(rt, ram[i])?;
+    for byte in ram {
+        print!(rt; "{byte:02x}")?;
     }
     Ok(())
-}
-
-fn show_refusal(rt: &impl Print, f: Refusal) -> io::Result<()> {
-    print!(rt; ": refused {} at {:06x}", f.number(), f.place())
-}
-
-fn show_done(rt: &impl Print, states: u32) -> io::Result<()> {
-    print!(rt; ": {states} states")
-}
-
-// A refused step has no states.
-fn show_outcome(rt: &impl Print, o: Outcome, states: u32) -> io::Result<()> {
-    match o {
-        Outcome::Done => show_done(rt, states)?,
-        Outcome::Refused(f) => show_refusal(rt, f)?,
-    }
-    Ok(())
-}
-
-fn show_answer(rt: &impl Print, before: [u32; 8], a: StepAnswer) -> io::Result<()> {
-    let o = a.outcome;
-    let q = a.regs;
-    let after = q.er;
-    show_outcome(rt, o, a.states)?;
-    show_changes(rt, before, after)?;
-    show_control(rt, q)
 }
 
 // The record lies here and is stepped where it lies; what came of it, in the form of the step by value.
-fn in_place(b: Board, rom: &[u8], ram: &mut [u8], r: Registers) -> StepAnswer {
-    let mut held = r;
-    let p = inplace::step_in_place(b, rom, ram, &mut held);
+fn in_place(board: Board, rom: &[u8], ram: &mut [u8], mut regs: Registers) -> StepAnswer {
+    let passed = inplace::step_in_place(board, rom, ram, &mut regs);
     StepAnswer {
-        regs: held,
-        states: p.states,
-        outcome: p.outcome,
+        regs,
+        states: passed.states,
+        outcome: passed.outcome,
     }
 }
 
-fn same_general(a: [u32; 8], b: [u32; 8]) -> bool {
-    (a[0] == b[0])
-        & (a[1] == b[1])
-        & (a[2] == b[2])
-        & (a[3] == b[3])
-        & (a[4] == b[4])
-        & (a[5] == b[5])
-        & (a[6] == b[6])
-        & (a[7] == b[7])
-}
-
-fn same_registers(a: Registers, b: Registers) -> bool {
-    let x = a.er;
-    let y = b.er;
-    let f = a.condition;
-    let g = b.condition;
-    same_general(x, y) & (a.pc == b.pc) & (f.byte() == g.byte())
-}
-
-// Zeros for a step that was done.
-fn numbers(o: Outcome) -> [u32; 3] {
-    match o {
-        Outcome::Done => [0; 3],
-        Outcome::Refused(f) => [f.number(), f.place(), f.group()],
-    }
-}
-
-fn same_outcome(a: Outcome, b: Outcome) -> bool {
-    let x = numbers(a);
-    let y = numbers(b);
-    (x[0] == y[0]) & (x[1] == y[1]) & (x[2] == y[2])
-}
-
-fn same_answer(a: StepAnswer, b: StepAnswer) -> bool {
-    let x = a.regs;
-    let y = b.regs;
-    let o = a.outcome;
-    let p = b.outcome;
-    same_registers(x, y) & (a.states == b.states) & same_outcome(o, p)
-}
-
-fn same_bytes(a: &[u8], b: &[u8]) -> bool {
-    if a.len() != b.len() {
-        return false;
-    }
-    let mut same = true;
-    for i in 0..a.len() {
-        same = same & (a[i] == b[i]);
-    }
-    same
-}
-
-fn show_agreed(rt: &impl Print, agreed: bool) -> io::Result<()> {
-    if !agreed {
-        print!(rt; " in place otherwise")?;
-    }
-    Ok(())
-}
-
-fn counted(t: bool) -> u32 {
-    if t {
-        return 1;
-    }
-    0
-}
-
-// What a step by value answers, and whether the record in place did the same.
-#[derive(Clone, Copy)]
-struct Told {
-    regs: Registers,
-    agreed: bool,
-}
-
-// `again` holds what `ram` holds: working memory of the step in place.
-fn line(
+// The registers after a step by value; none if the record in place came out otherwise.
+fn line<const N: usize>(
     rt: &impl Print,
     base: u32,
     rom: &[u8],
-    ram: &mut [u8],
-    again: &mut [u8],
-    r: Registers,
-) -> io::Result<Told> {
-    let before = r.er;
-    show_general(rt, before)?;
-    show_control(rt, r)?;
-    show_ram(rt, &ram[..])?;
-    let a = run::single(memory::plain(base), rom, ram, r);
-    let q = a.regs;
-    show_answer(rt, before, a)?;
-    show_ram(rt, &ram[..])?;
-    let h = in_place(memory::plain(base), rom, again, r);
-    let agreed = same_answer(a, h) & same_bytes(&ram[..], &again[..]);
-    show_agreed(rt, agreed)?;
-    println!(rt; "")?;
-    Ok(Told {
-        regs: q,
-        agreed: agreed,
-    })
-}
-
-fn byte(x: u64) -> u8 {
-    (x % 256) as u8
-}
-
-fn bytes(code: u64) -> [u8; 8] {
-    [
-        byte(code / 0x100000000000000),
-        byte(code / 0x1000000000000),
-        byte(code / 0x10000000000),
-        byte(code / 0x100000000),
-        byte(code / 0x1000000),
-        byte(code / 0x10000),
-        byte(code / 0x100),
-        byte(code),
-    ]
-}
-
-fn fill(m: &mut [u8], seed: u32) {
-    for i in 0..m.len() {
-        m[i] = byte(mix(seed % 65536 + (i % 64) as u32) as u64);
-    }
-}
-
-// The code from PC on.
-fn place(m: &mut [u8; 64], c: [u8; 8], pc: u32) {
-    let at = (pc % 57) as usize;
-    m[at] = c[0];
-    m[at + 1] = c[1];
-    m[at + 2] = c[2];
-    m[at + 3] = c[3];
-    m[at + 4] = c[4];
-    m[at + 5] = c[5];
-    m[at + 6] = c[6];
-    m[at + 7] = c[7];
-}
-
-fn code_memory(seed: u32, code: u64, pc: u32) -> [u8; 64] {
-    let mut m = [0u8; 64];
-    fill(&mut m, 30000 + seed % 4096 * 16);
-    place(&mut m, bytes(code), pc);
-    m
-}
-
-fn working_memory(seed: u32) -> [u8; 16] {
-    let mut m = [0u8; 16];
-    fill(&mut m, 50000 + seed % 4096 * 16);
-    m
-}
-
-// The board of the forms: 64 made bytes but for the code at PC, and working memory FFFFF0 to FFFFFF.
-fn on_board(rt: &impl Print, seed: u32, code: u64, r: Registers) -> io::Result<bool> {
-    let rom = code_memory(seed, code, r.pc);
-    let mut ram = working_memory(seed);
+    mut ram: [u8; N],
+    before: Registers,
+) -> io::Result<Option<Registers>> {
+    let board = memory::plain(base);
     let mut again = ram;
+    show_before(rt, before)?;
+    show_ram(rt, &ram)?;
+    let by_value = run::single(board, rom, &mut ram, before);
+    show_answer(rt, before, by_value)?;
+    show_ram(rt, &ram)?;
+    let same = in_place(board, rom, &mut again, before) == by_value && again == ram;
+    println!(rt; "{}", if same { "" } else { " in place otherwise" })?;
+    Ok(same.then_some(by_value.regs))
+}
+
+// The board of the forms: 64 made bytes but for the code at PC, and working memory FFFFF0 to FFFFFF. Whether the record in place did
+// the same.
+fn on_board(rt: &impl Print, seed: u32, code: u64, before: Registers) -> io::Result<bool> {
+    let from = seed % 4096 * 16;
+    let mut rom: [u8; 64] = made(30000 + from);
+    let at = (before.pc % 57) as usize;
+    rom[at..at + 8].copy_from_slice(&code.to_be_bytes());
+    let ram: [u8; 16] = made(50000 + from);
     print!(rt; "{code:016x}")?;
-    let t = line(rt, BASE, &rom, &mut ram, &mut again, r)?;
-    Ok(t.agreed)
+    let after = line(rt, BASE, &rom, ram, before)?;
+    Ok(after.is_some())
 }
 
-// ER5 to ER7 hold addresses: inside working memory; at its ends; or odd, with a top byte.
-fn address(state: u32, x: u32) -> u32 {
-    let top = x / 256 % 128 * 16777216;
-    match state {
-        0 => BASE + 4 + x % 4 * 2,
-        1 => top + BASE - 2 + x % 20,
-        _ => top + BASE + 4 + x % 8,
+// Where the addresses lie that ER5 to ER7 hold: inside working memory; at its ends, and the other registers hold edges; or odd, with a
+// top byte.
+#[derive(Clone, Copy)]
+enum State {
+    Inside,
+    AtTheEnds,
+    Odd,
+}
+
+const STATES: [State; 3] = [State::Inside, State::AtTheEnds, State::Odd];
+
+impl State {
+    fn address(self, x: u32) -> u32 {
+        let top = x / 256 % 128 * 16777216;
+        match self {
+            State::Inside => BASE + 4 + x % 4 * 2,
+            State::AtTheEnds => top + BASE - 2 + x % 20,
+            State::Odd => top + BASE + 4 + x % 8,
+        }
+    }
+
+    fn data(self, x: u32) -> u32 {
+        match self {
+            State::AtTheEnds => EDGES[(x % 8) as usize],
+            State::Inside | State::Odd => x,
+        }
+    }
+
+    fn registers(self, seed: u32) -> Registers {
+        let n = seed % 4096 * 16;
+        Registers {
+            er: [
+                self.data(number(n)),
+                self.data(number(n + 1)),
+                self.data(number(n + 2)),
+                self.data(number(n + 3)),
+                self.data(number(n + 4)),
+                self.address(number(n + 5)),
+                self.address(number(n + 6)),
+                self.address(number(n + 7)),
+            ],
+            pc: number(n + 8) % 29 * 2,
+            condition: Condition::from(byte(number(n + 9))),
+        }
     }
 }
 
-fn edge(x: u32) -> u32 {
-    let t = EDGES;
-    t[(x % 8) as usize]
-}
-
-fn data(state: u32, x: u32) -> u32 {
-    if state == 1 { edge(x) } else { x }
-}
-
-fn state(seed: u32, state: u32) -> Registers {
-    let n = seed % 4096 * 16;
-    Registers {
-        er: [
-            data(state, number(n)),
-            data(state, number(n + 1)),
-            data(state, number(n + 2)),
-            data(state, number(n + 3)),
-            data(state, number(n + 4)),
-            address(state, number(n + 5)),
-            address(state, number(n + 6)),
-            address(state, number(n + 7)),
-        ],
-        pc: number(n + 8) % 29 * 2,
-        condition: Condition::from_byte(byte(number(n + 9) as u64)),
-    }
-}
-
-fn code(form: usize) -> u64 {
-    let t = CODES;
-    t[form % 239]
-}
-
-// The seed tells the form and which of its three states. How often the record in place did the same.
+// Each form from three states; a seed tells both. How often the record in place did the same.
 fn every_form(rt: &impl Print) -> io::Result<u32> {
     let mut agreed = 0u32;
-    for seed in 0..717u32 {
-        let same = on_board(rt, seed, code((seed / 3) as usize), state(seed, seed % 3))?;
-        agreed = agreed + counted(same) % 2;
+    for (&code, first) in CODES.iter().zip((0..).step_by(3)) {
+        for (state, seed) in STATES.iter().zip(first..) {
+            let same = on_board(rt, seed, code, state.registers(seed))?;
+            agreed = agreed.saturating_add(same.into());
+        }
     }
     Ok(agreed)
 }
@@ -575,374 +423,230 @@ fn every_form(rt: &impl Print) -> io::Result<u32> {
 fn start(er0: u32, er1: u32, er7: u32, pc: u32, condition: u8) -> Registers {
     Registers {
         er: [er0, er1, 0, 0, 0, 0, 0, er7],
-        pc: pc,
-        condition: Condition::from_byte(condition),
+        pc,
+        condition: Condition::from(condition),
     }
-}
-
-fn show_taken(rt: &impl Print, pc: u32) -> io::Result<()> {
-    match pc {
-        0x12 => print!(rt; "T")?,
-        2 => print!(rt; "-")?,
-        _ => print!(rt; "?")?,
-    }
-    Ok(())
 }
 
 // A branch from 0 to 12; four states, taken or not, and the same in place.
-fn branch(rt: &impl Print, digit: u8, flags: u8) -> io::Result<()> {
+fn branch(digit: u8, flags: u8) -> char {
+    let board = memory::plain(BASE);
     let rom = [0x40 + digit % 16, 0x10];
-    let mut ram = [0u8; 0];
-    let r = start(0, 0, 0, 0, flags);
-    let a = run::single(memory::plain(BASE), &rom, &mut ram, r);
-    let h = in_place(memory::plain(BASE), &rom, &mut ram, r);
-    let q = a.regs;
-    if same_answer(a, h) & (a.states == 4) {
-        show_taken(rt, q.pc)?;
-    } else {
-        print!(rt; "!")?;
+    let before = start(0, 0, 0, 0, flags);
+    let answer = run::single(board, &rom, &mut [], before);
+    let same = in_place(board, &rom, &mut [], before) == answer;
+    match answer.regs.pc {
+        _ if !same || answer.states != 4 => '!',
+        0x12 => 'T',
+        2 => '-',
+        _ => '?',
     }
-    Ok(())
-}
-
-fn show_condition(rt: &impl Print, digit: u8, flags: u8) -> io::Result<()> {
-    if flags == 0 {
-        print!(rt; "\nBcc {digit:x}: ")?;
-    }
-    branch(rt, digit, flags)
 }
 
 // N, Z, V and C from 0 to F: T where the branch is taken.
 fn conditions(rt: &impl Print) -> io::Result<()> {
     print!(rt; "NZVC")?;
-    for k in 0..256u64 {
-        show_condition(rt, byte(k / 16), byte(k % 16))?;
+    for digit in 0..16 {
+        print!(rt; "\nBcc {digit:x}: ")?;
+        for flags in 0..16 {
+            print!(rt; "{}", branch(digit, flags))?;
+        }
     }
     println!(rt; "")
 }
 
 // Read-only memory is the eight bytes of a code; working memory is two bytes, as in marked examples 8 and 9.
-fn small(rt: &impl Print, name: &str, base: u32, code: u64, r: Registers) -> io::Result<Told> {
-    let rom = bytes(code);
-    let mut ram = [0xA5u8, 0x5A];
-    let mut again = ram;
-    print!(rt; "{name}{code:016x} base {base:06x}")?;
-    line(rt, base, &rom, &mut ram, &mut again, r)
+fn small(
+    rt: &impl Print,
+    name: &str,
+    base: u32,
+    code: u64,
+    before: Registers,
+) -> io::Result<Option<Registers>> {
+    print!(rt; "{name}: {code:016x} base {base:06x}")?;
+    line(rt, base, &code.to_be_bytes(), [0xA5, 0x5A], before)
 }
 
 const AT: u32 = 0xFFEF10;
 
+fn each(rt: &impl Print, name: &str, cases: &[(u64, Registers)]) -> io::Result<()> {
+    for &(code, before) in cases {
+        small(rt, name, AT, code, before)?;
+    }
+    Ok(())
+}
+
+fn each_on_board(rt: &impl Print, first: u32, cases: &[(u64, Registers)]) -> io::Result<()> {
+    for (seed, &(code, before)) in (first..).zip(cases) {
+        on_board(rt, seed, code, before)?;
+    }
+    Ok(())
+}
+
 fn decimal_examples(rt: &impl Print) -> io::Result<()> {
-    small(
-        rt,
-        "example 3: ",
-        AT,
-        0x0F09000000000000,
-        start(0, 0x5A, 0, 0, 0),
-    )?;
-    small(
-        rt,
-        "example 4: ",
-        AT,
-        0x0F09000000000000,
-        start(0, 0x9A, 0, 0, 0),
-    )?;
-    small(
-        rt,
-        "example 5: ",
-        AT,
-        0x0F09000000000000,
-        start(0, 0x21, 0, 0, 0x21),
-    )?;
-    small(
-        rt,
-        "example 6: ",
-        AT,
-        0x0F09000000000000,
-        start(0, 0x04, 0, 0, 0x20),
-    )?;
+    for (name, er1, condition) in [
+        ("example 3", 0x5A, 0),
+        ("example 4", 0x9A, 0),
+        ("example 5", 0x21, 0x21),
+        ("example 6", 0x04, 0x20),
+    ] {
+        small(
+            rt,
+            name,
+            AT,
+            0x0F09000000000000,
+            start(0, er1, 0, 0, condition),
+        )?;
+    }
     Ok(())
 }
 
 // Example 2 with Z clear and with Z set before; after example 7 the BLT is taken.
 fn examples(rt: &impl Print) -> io::Result<()> {
-    small(
+    each(
         rt,
-        "example 1: ",
-        AT,
-        0x0889000000000000,
-        start(0x7F, 0x01, 0, 0, 0),
+        "example 1",
+        &[(0x0889000000000000, start(0x7F, 0x01, 0, 0, 0))],
     )?;
-    small(
+    each(
         rt,
-        "example 2: ",
-        AT,
-        0x0E89000000000000,
-        start(0x00, 0xFF, 0, 0, 0x01),
-    )?;
-    small(
-        rt,
-        "example 2: ",
-        AT,
-        0x0E89000000000000,
-        start(0x00, 0xFF, 0, 0, 0x05),
+        "example 2",
+        &[
+            (0x0E89000000000000, start(0x00, 0xFF, 0, 0, 0x01)),
+            (0x0E89000000000000, start(0x00, 0xFF, 0, 0, 0x05)),
+        ],
     )?;
     decimal_examples(rt)?;
-    let t = small(
+    let code = 0x1C894D1000000000;
+    if let Some(compared) = small(rt, "example 7", AT, code, start(0x01, 0x80, 0, 0, 0))? {
+        small(rt, "example 7", AT, code, compared)?;
+    }
+    each(
         rt,
-        "example 7: ",
-        AT,
-        0x1C894D1000000000,
-        start(0x01, 0x80, 0, 0, 0),
+        "example 8",
+        &[(0x6910000000000000, start(0, 0x00FFEF11, 0, 0, 0))],
     )?;
-    let compared = t.regs;
-    small(rt, "example 7: ", AT, 0x1C894D1000000000, compared)?;
-    small(
+    each(
         rt,
-        "example 8: ",
-        AT,
-        0x6910000000000000,
-        start(0, 0x00FFEF11, 0, 0, 0),
-    )?;
-    small(
-        rt,
-        "example 9: ",
-        AT,
-        0x6D80000000000000,
-        start(0x00FFEF12, 0, 0, 0, 0),
-    )?;
-    Ok(())
+        "example 9",
+        &[(0x6D80000000000000, start(0x00FFEF12, 0, 0, 0, 0))],
+    )
 }
 
 // Base odd, below the end of read-only memory, too high; PC odd, too high.
 fn bad_boards(rt: &impl Print) -> io::Result<()> {
-    small(rt, "refusal 1: ", 0xFFEF11, 0, start(0, 0, 0, 0, 0))?;
-    small(rt, "refusal 1: ", 6, 0, start(0, 0, 0, 0, 0))?;
-    small(rt, "refusal 1: ", 0x1000000, 0, start(0, 0, 0, 0, 0))?;
-    small(rt, "refusal 1: ", AT, 0, start(0, 0, 0, 9, 0))?;
-    small(rt, "refusal 1: ", AT, 0, start(0, 0, 0, 0x1000000, 0))?;
+    for (base, pc) in [
+        (0xFFEF11, 0),
+        (6, 0),
+        (0x1000000, 0),
+        (AT, 9),
+        (AT, 0x1000000),
+    ] {
+        small(rt, "refusal 1", base, 0, start(0, 0, 0, pc, 0))?;
+    }
     Ok(())
 }
 
 // Past the end; in working memory; a code that the manual has not, one that begins like JMP and one at the end; codes that run past the end.
 fn bad_codes(rt: &impl Print) -> io::Result<()> {
-    small(rt, "refusal 2: ", AT, 0, start(0, 0, 0, 8, 0))?;
-    small(rt, "refusal 2: ", AT, 0, start(0, 0, 0, AT, 0))?;
-    small(
+    each(
         rt,
-        "refusal 3: ",
-        AT,
-        0x5471000000000000,
-        start(0, 0, 0, 0, 0),
+        "refusal 2",
+        &[(0, start(0, 0, 0, 8, 0)), (0, start(0, 0, 0, AT, 0))],
     )?;
-    small(
+    each(
         rt,
-        "refusal 3: ",
-        AT,
-        0x0000590100000000,
-        start(0, 0, 0, 2, 0),
+        "refusal 3",
+        &[
+            (0x5471000000000000, start(0, 0, 0, 0, 0)),
+            (0x0000590100000000, start(0, 0, 0, 2, 0)),
+            (0x0000000000005801, start(0, 0, 0, 6, 0)),
+        ],
     )?;
-    small(
+    each(
         rt,
-        "refusal 3: ",
-        AT,
-        0x0000000000005801,
-        start(0, 0, 0, 6, 0),
-    )?;
-    small(
-        rt,
-        "refusal 4: ",
-        AT,
-        0x0000000000007900,
-        start(0, 0, 0, 6, 0),
-    )?;
-    small(
-        rt,
-        "refusal 4: ",
-        AT,
-        0x0000000001006B20,
-        start(0, 0, 0, 4, 0),
-    )?;
-    Ok(())
+        "refusal 4",
+        &[
+            (0x0000000000007900, start(0, 0, 0, 6, 0)),
+            (0x0000000001006B20, start(0, 0, 0, 4, 0)),
+        ],
+    )
 }
 
 // A byte; a word before memory; the second word of a longword; a vector, though the push is refused as well; RTS.
 fn bad_reads(rt: &impl Print) -> io::Result<()> {
-    small(
+    each(
         rt,
-        "refusal 5: ",
-        AT,
-        0x6810000000000000,
-        start(0, 0x00FFEF12, 0, 0, 0),
-    )?;
-    small(
-        rt,
-        "refusal 5: ",
-        AT,
-        0x6D10000000000000,
-        start(0, 0x00FFEF0F, 0, 0, 0),
-    )?;
-    small(
-        rt,
-        "refusal 5: ",
-        AT,
-        0x0100691000000000,
-        start(0, 0x00FFEF11, 0, 0, 0),
-    )?;
-    small(
-        rt,
-        "refusal 5: ",
-        AT,
-        0x5FF0000000000000,
-        start(0, 0, 0, 0, 0),
-    )?;
-    small(
-        rt,
-        "refusal 5: ",
-        AT,
-        0x5470000000000000,
-        start(0, 0, 0x00FFEF10, 0, 0),
-    )?;
-    Ok(())
+        "refusal 5",
+        &[
+            (0x6810000000000000, start(0, 0x00FFEF12, 0, 0, 0)),
+            (0x6D10000000000000, start(0, 0x00FFEF0F, 0, 0, 0)),
+            (0x0100691000000000, start(0, 0x00FFEF11, 0, 0, 0)),
+            (0x5FF0000000000000, start(0, 0, 0, 0, 0)),
+            (0x5470000000000000, start(0, 0, 0x00FFEF10, 0, 0)),
+        ],
+    )
 }
 
 // Read-only memory; @-ER; the second word of a longword, where nothing is stored; a push; after the vector was read.
 fn bad_writes(rt: &impl Print) -> io::Result<()> {
-    small(
+    each(
         rt,
-        "refusal 6: ",
-        AT,
-        0x6890000000000000,
-        start(0, 0x00000004, 0, 0, 0),
-    )?;
-    small(
-        rt,
-        "refusal 6: ",
-        AT,
-        0x6C98000000000000,
-        start(0, 0x00FFEF10, 0, 0, 0),
-    )?;
-    small(
-        rt,
-        "refusal 6: ",
-        AT,
-        0x0100699000000000,
-        start(0x01020304, 0x00FFEF10, 0, 0, 0),
-    )?;
-    small(
-        rt,
-        "refusal 6: ",
-        AT,
-        0x5500000000000000,
-        start(0, 0, 0x00FFEF14, 0, 0),
-    )?;
-    small(
-        rt,
-        "refusal 6: ",
-        AT,
-        0x5F04000000000000,
-        start(0, 0, 0, 0, 0),
-    )?;
-    Ok(())
+        "refusal 6",
+        &[
+            (0x6890000000000000, start(0, 0x00000004, 0, 0, 0)),
+            (0x6C98000000000000, start(0, 0x00FFEF10, 0, 0, 0)),
+            (0x0100699000000000, start(0x01020304, 0x00FFEF10, 0, 0, 0)),
+            (0x5500000000000000, start(0, 0, 0x00FFEF14, 0, 0)),
+            (0x5F04000000000000, start(0, 0, 0, 0, 0)),
+        ],
+    )
 }
 
 // MULXS behind 01D0; a digit that is no long register; a code that runs past the end, before its divisor is looked at.
 fn bad_multiplications(rt: &impl Print) -> io::Result<()> {
-    small(
+    each(
         rt,
-        "refusal 3: ",
-        AT,
-        0x01D0508100000000,
-        start(0x01, 0x01, 0, 0, 0),
+        "refusal 3",
+        &[
+            (0x01D0508100000000, start(0x01, 0x01, 0, 0, 0)),
+            (0x5309000000000000, start(0x01, 0x01, 0, 0, 0)),
+        ],
     )?;
-    small(
+    each(
         rt,
-        "refusal 3: ",
-        AT,
-        0x5309000000000000,
-        start(0x01, 0x01, 0, 0, 0),
-    )?;
-    small(
-        rt,
-        "refusal 4: ",
-        AT,
-        0x00000000000001D0,
-        start(0, 0, 0, 6, 0),
-    )?;
-    Ok(())
+        "refusal 4",
+        &[(0x00000000000001D0, start(0, 0, 0, 6, 0))],
+    )
 }
 
 // By zero; a quotient of 256; by its own upper half; a quotient of 65,536.
 fn bad_divisions(rt: &impl Print) -> io::Result<()> {
-    small(
+    each(
         rt,
-        "refusal 14: ",
-        AT,
-        0x5181000000000000,
-        start(0x00, 0x1234, 0, 0, 0xFF),
-    )?;
-    small(
-        rt,
-        "refusal 14: ",
-        AT,
-        0x5181000000000000,
-        start(0x01, 0x0100, 0, 0, 0),
-    )?;
-    small(
-        rt,
-        "refusal 14: ",
-        AT,
-        0x5111000000000000,
-        start(0, 0xFF00, 0, 0, 0),
-    )?;
-    small(
-        rt,
-        "refusal 14: ",
-        AT,
-        0x0000530100000000,
-        start(0x0001, 0x00010000, 0, 2, 0),
-    )?;
-    Ok(())
+        "refusal 14",
+        &[
+            (0x5181000000000000, start(0x00, 0x1234, 0, 0, 0xFF)),
+            (0x5181000000000000, start(0x01, 0x0100, 0, 0, 0)),
+            (0x5111000000000000, start(0, 0xFF00, 0, 0, 0)),
+            (0x0000530100000000, start(0x0001, 0x00010000, 0, 2, 0)),
+        ],
+    )
 }
 
 // By zero; quotients of 128 and -129; by zero; 80000000 by -1.
 fn bad_signed_divisions(rt: &impl Print) -> io::Result<()> {
-    small(
+    each(
         rt,
-        "refusal 14: ",
-        AT,
-        0x01D0518100000000,
-        start(0x00, 0x0000, 0, 0, 0),
-    )?;
-    small(
-        rt,
-        "refusal 14: ",
-        AT,
-        0x01D0518100000000,
-        start(0xFF, 0xFF80, 0, 0, 0),
-    )?;
-    small(
-        rt,
-        "refusal 14: ",
-        AT,
-        0x01D0518100000000,
-        start(0x80, 0x4080, 0, 0, 0),
-    )?;
-    small(
-        rt,
-        "refusal 14: ",
-        AT,
-        0x01D0530100000000,
-        start(0x0000, 0x80000000, 0, 0, 0),
-    )?;
-    small(
-        rt,
-        "refusal 14: ",
-        AT,
-        0x01D0530100000000,
-        start(0xFFFF, 0x80000000, 0, 0, 0),
-    )?;
-    Ok(())
+        "refusal 14",
+        &[
+            (0x01D0518100000000, start(0x00, 0x0000, 0, 0, 0)),
+            (0x01D0518100000000, start(0xFF, 0xFF80, 0, 0, 0)),
+            (0x01D0518100000000, start(0x80, 0x4080, 0, 0, 0)),
+            (0x01D0530100000000, start(0x0000, 0x80000000, 0, 0, 0)),
+            (0x01D0530100000000, start(0xFFFF, 0x80000000, 0, 0, 0)),
+        ],
+    )
 }
 
 fn refusals(rt: &impl Print) -> io::Result<()> {
@@ -950,12 +654,10 @@ fn refusals(rt: &impl Print) -> io::Result<()> {
     bad_codes(rt)?;
     bad_reads(rt)?;
     bad_writes(rt)?;
-    small(
+    each(
         rt,
-        "refusal 7: ",
-        AT,
-        0x000000001F080000,
-        start(0x50, 0, 0, 4, 0x20),
+        "refusal 7",
+        &[(0x000000001F080000, start(0x50, 0, 0, 4, 0x20))],
     )?;
     bad_multiplications(rt)?;
     bad_divisions(rt)?;
@@ -964,280 +666,163 @@ fn refusals(rt: &impl Print) -> io::Result<()> {
 
 // MULXU leaves all flags; the destination's upper half does not matter, but may be the source. -128 by -128; zero by -1.
 fn multiplications(rt: &impl Print) -> io::Result<()> {
-    small(
+    each(
         rt,
-        "multiply: ",
-        AT,
-        0x5081000000000000,
-        start(0x00, 0xAAAA55FF, 0, 0, 0),
-    )?;
-    small(
-        rt,
-        "multiply: ",
-        AT,
-        0x5011000000000000,
-        start(0, 0x0000FF02, 0, 0, 0xFF),
-    )?;
-    small(
-        rt,
-        "multiply: ",
-        AT,
-        0x5291000000000000,
-        start(0, 0xFFFFFFFF, 0, 0, 0),
-    )?;
-    small(
-        rt,
-        "multiply: ",
-        AT,
-        0x01C0508100000000,
-        start(0x80, 0x0080, 0, 0, 0xFF),
-    )?;
-    small(
-        rt,
-        "multiply: ",
-        AT,
-        0x01C0508900000000,
-        start(0xFF, 0x12005678, 0, 0, 0x08),
-    )?;
-    small(
-        rt,
-        "multiply: ",
-        AT,
-        0x01C0520100000000,
-        start(0x8000, 0xFFFF8000, 0, 0, 0),
-    )?;
-    Ok(())
+        "multiply",
+        &[
+            (0x5081000000000000, start(0x00, 0xAAAA55FF, 0, 0, 0)),
+            (0x5011000000000000, start(0, 0x0000FF02, 0, 0, 0xFF)),
+            (0x5291000000000000, start(0, 0xFFFFFFFF, 0, 0, 0)),
+            (0x01C0508100000000, start(0x80, 0x0080, 0, 0, 0xFF)),
+            (0x01C0508900000000, start(0xFF, 0x12005678, 0, 0, 0x08)),
+            (0x01C0520100000000, start(0x8000, 0xFFFF8000, 0, 0, 0)),
+        ],
+    )
 }
 
 // N is the divisor's top bit; by its own lower half; the largest quotient and remainder.
 fn divisions(rt: &impl Print) -> io::Result<()> {
-    small(
+    each(
         rt,
-        "divide: ",
-        AT,
-        0x5181000000000000,
-        start(0x80, 0x00FF, 0, 0, 0x04),
-    )?;
-    small(
-        rt,
-        "divide: ",
-        AT,
-        0x5191000000000000,
-        start(0, 0x0510, 0, 0, 0),
-    )?;
-    small(
-        rt,
-        "divide: ",
-        AT,
-        0x5301000000000000,
-        start(0xFFFF, 0xFFFEFFFF, 0, 0, 0),
-    )?;
-    Ok(())
+        "divide",
+        &[
+            (0x5181000000000000, start(0x80, 0x00FF, 0, 0, 0x04)),
+            (0x5191000000000000, start(0, 0x0510, 0, 0, 0)),
+            (0x5301000000000000, start(0xFFFF, 0xFFFEFFFF, 0, 0, 0)),
+        ],
+    )
 }
 
 // A quotient of zero with N set; a remainder with the dividend's sign; -128 fits, and -32,768; by its own upper half.
 fn signed_divisions(rt: &impl Print) -> io::Result<()> {
-    small(
+    each(
         rt,
-        "divide: ",
-        AT,
-        0x01D0518100000000,
-        start(0xFB, 0x0003, 0, 0, 0),
-    )?;
-    small(
-        rt,
-        "divide: ",
-        AT,
-        0x01D0518100000000,
-        start(0xFE, 0xFFF9, 0, 0, 0xFF),
-    )?;
-    small(
-        rt,
-        "divide: ",
-        AT,
-        0x01D0518100000000,
-        start(0x80, 0x407F, 0, 0, 0),
-    )?;
-    small(
-        rt,
-        "divide: ",
-        AT,
-        0x01D0530100000000,
-        start(0xFFFF, 0x00008000, 0, 0, 0),
-    )?;
-    small(
-        rt,
-        "divide: ",
-        AT,
-        0x01D0539100000000,
-        start(0, 0xFFFFFFFF, 0, 0, 0),
-    )?;
-    Ok(())
+        "divide",
+        &[
+            (0x01D0518100000000, start(0xFB, 0x0003, 0, 0, 0)),
+            (0x01D0518100000000, start(0xFE, 0xFFF9, 0, 0, 0xFF)),
+            (0x01D0518100000000, start(0x80, 0x407F, 0, 0, 0)),
+            (0x01D0530100000000, start(0xFFFF, 0x00008000, 0, 0, 0)),
+            (0x01D0539100000000, start(0, 0xFFFFFFFF, 0, 0, 0)),
+        ],
+    )
 }
 
 // BSET behind 7C; a number that no bit has; a code that runs past the end. A bit to be written is read first: 5 before 6; FFFF40; 6 in
 // read-only memory.
 fn bad_bits(rt: &impl Print) -> io::Result<()> {
-    small(
+    each(
         rt,
-        "refusal 3: ",
-        AT,
-        0x7C10700000000000,
-        start(0, 0x00FFEF10, 0, 0, 0),
+        "refusal 3",
+        &[
+            (0x7C10700000000000, start(0, 0x00FFEF10, 0, 0, 0)),
+            (0x7080000000000000, start(0, 0, 0, 0, 0)),
+        ],
     )?;
-    small(
+    each(
         rt,
-        "refusal 3: ",
-        AT,
-        0x7080000000000000,
-        start(0, 0, 0, 0, 0),
+        "refusal 4",
+        &[(0x0000000000007D10, start(0, 0, 0, 6, 0))],
     )?;
-    small(
+    each(
         rt,
-        "refusal 4: ",
-        AT,
-        0x0000000000007D10,
-        start(0, 0, 0, 6, 0),
+        "refusal 5",
+        &[
+            (0x7D10700000000000, start(0, 0x00FFEF13, 0, 0, 0xFF)),
+            (0x7E40770000000000, start(0, 0, 0, 0, 0xFF)),
+        ],
     )?;
-    small(
+    each(
         rt,
-        "refusal 5: ",
-        AT,
-        0x7D10700000000000,
-        start(0, 0x00FFEF13, 0, 0, 0xFF),
-    )?;
-    small(
-        rt,
-        "refusal 5: ",
-        AT,
-        0x7E40770000000000,
-        start(0, 0, 0, 0, 0xFF),
-    )?;
-    small(
-        rt,
-        "refusal 6: ",
-        AT,
-        0x7D10670000000000,
-        start(0, 0x00000005, 0, 0, 0xFF),
-    )?;
-    Ok(())
+        "refusal 6",
+        &[(0x7D10670000000000, start(0, 0x00000005, 0, 0, 0xFF))],
+    )
 }
 
 // A byte that has its own bit's number; the number 255; BTST of 1 and of 0; BIST of C.
 fn bits(rt: &impl Print) -> io::Result<()> {
-    small(rt, "bit: ", AT, 0x6088000000000000, start(0x0A, 0, 0, 0, 0))?;
-    small(
+    each(
         rt,
-        "bit: ",
-        AT,
-        0x6298000000000000,
-        start(0xFF, 0xFF, 0, 0, 0xFF),
-    )?;
-    small(
-        rt,
-        "bit: ",
-        AT,
-        0x7301000000000000,
-        start(0, 0x0100, 0, 0, 0xFF),
-    )?;
-    small(
-        rt,
-        "bit: ",
-        AT,
-        0x7319000000000000,
-        start(0, 0x0001, 0, 0, 0),
-    )?;
-    small(
-        rt,
-        "bit: ",
-        AT,
-        0x67F8000000000000,
-        start(0x80, 0, 0, 0, 0x01),
-    )?;
-    Ok(())
+        "bit",
+        &[
+            (0x6088000000000000, start(0x0A, 0, 0, 0, 0)),
+            (0x6298000000000000, start(0xFF, 0xFF, 0, 0, 0xFF)),
+            (0x7301000000000000, start(0, 0x0100, 0, 0, 0xFF)),
+            (0x7319000000000000, start(0, 0x0001, 0, 0, 0)),
+            (0x67F8000000000000, start(0x80, 0, 0, 0, 0x01)),
+        ],
+    )
 }
 
 // A bit of read-only memory is read; one at an odd address is written.
 fn bits_in_memory(rt: &impl Print) -> io::Result<()> {
-    small(
+    each(
         rt,
-        "bit: ",
-        AT,
-        0x7C10773000000000,
-        start(0, 0x00000003, 0, 0, 0x01),
-    )?;
-    small(
-        rt,
-        "bit: ",
-        AT,
-        0x7D10712000000000,
-        start(0, 0x12FFEF11, 0, 0, 0),
-    )?;
-    Ok(())
+        "bit",
+        &[
+            (0x7C10773000000000, start(0, 0x00000003, 0, 0, 0x01)),
+            (0x7D10712000000000, start(0, 0x12FFEF11, 0, 0, 0)),
+        ],
+    )
 }
 
 // The register that goes up or down is also loaded or stored; an odd one.
 fn own_parts(rt: &impl Print) -> io::Result<()> {
-    on_board(rt, 600, 0x6C08000000000000, start(0x00FFFFFF, 0, 0, 0, 0))?;
-    on_board(rt, 601, 0x6C88000000000000, start(0x01000000, 0, 0, 0, 0))?;
-    on_board(rt, 602, 0x6D08000000000000, start(0x00FFFFFE, 0, 0, 0, 0))?;
-    on_board(rt, 603, 0x6D80000000000000, start(0x00FFFFF3, 0, 0, 0, 0))?;
-    on_board(rt, 604, 0x01006D0000000000, start(0xABFFFFF5, 0, 0, 0, 0))?;
-    on_board(rt, 605, 0x01006D8000000000, start(0x01000000, 0, 0, 0, 0))?;
-    Ok(())
+    each_on_board(
+        rt,
+        600,
+        &[
+            (0x6C08000000000000, start(0x00FFFFFF, 0, 0, 0, 0)),
+            (0x6C88000000000000, start(0x01000000, 0, 0, 0, 0)),
+            (0x6D08000000000000, start(0x00FFFFFE, 0, 0, 0, 0)),
+            (0x6D80000000000000, start(0x00FFFFF3, 0, 0, 0, 0)),
+            (0x01006D0000000000, start(0xABFFFFF5, 0, 0, 0, 0)),
+            (0x01006D8000000000, start(0x01000000, 0, 0, 0, 0)),
+        ],
+    )
 }
 
 // A longword at FFFFFE goes on at 000000; calls by ER7, with ER7 odd and over 24 bits; ER7 going below 0.
 fn ends_of_memory(rt: &impl Print) -> io::Result<()> {
-    on_board(rt, 606, 0x0100690000000000, start(0x00FFFFFE, 0, 0, 0, 0))?;
-    on_board(
+    each_on_board(
         rt,
-        607,
-        0x0100698100000000,
-        start(0x00FFFFFE, 0x01020304, 0, 0, 0),
-    )?;
-    on_board(rt, 608, 0x5D70000000000000, start(0, 0, 0x00FFFFF8, 0, 0))?;
-    on_board(rt, 609, 0x5E00400100000000, start(0, 0, 0x12FFFFF9, 0, 0))?;
-    on_board(rt, 610, 0x5500000000000000, start(0, 0, 0x00000000, 0, 0))?;
-    on_board(rt, 611, 0x5470000000000000, start(0, 0, 0xFFFFFFFC, 0, 0))?;
-    Ok(())
+        606,
+        &[
+            (0x0100690000000000, start(0x00FFFFFE, 0, 0, 0, 0)),
+            (0x0100698100000000, start(0x00FFFFFE, 0x01020304, 0, 0, 0)),
+            (0x5D70000000000000, start(0, 0, 0x00FFFFF8, 0, 0)),
+            (0x5E00400100000000, start(0, 0, 0x12FFFFF9, 0, 0)),
+            (0x5500000000000000, start(0, 0, 0x00000000, 0, 0)),
+            (0x5470000000000000, start(0, 0, 0xFFFFFFFC, 0, 0)),
+        ],
+    )
 }
 
 // The push goes over the vector that was read before it: the target is the old one, its first byte and its lowest bit gone.
 fn vector_in_working_memory(rt: &impl Print) -> io::Result<()> {
-    let rom = bytes(0x5F08000000000000);
-    let mut ram = [0x12u8, 0x00, 0x40, 0x21];
-    let mut again = ram;
-    print!(rt; "vector: 5f08000000000000 base 000008")?;
-    line(
-        rt,
-        8,
-        &rom,
-        &mut ram,
-        &mut again,
-        start(0, 0, 0x0000000C, 0, 0),
-    )?;
+    let code = 0x5F08000000000000u64;
+    let before = start(0, 0, 0x0000000C, 0, 0);
+    print!(rt; "vector: {code:016x} base 000008")?;
+    line(rt, 8, &code.to_be_bytes(), [0x12, 0x00, 0x40, 0x21], before)?;
     Ok(())
 }
 
-// Every refusal that a step has. PC odd; past the end; no code; cut short; reads: a byte, a word with the register going up, RTS;
-// writes: a byte with the register going down, two pushes; no row; a quotient that does not fit; left out.
-const HELD_PC: [u32; 13] = [9, 8, 0, 6, 0, 0, 0, 0, 0, 0, 0, 0, 0];
-
-const HELD_CODES: [u64; 13] = [
-    0x0000000000000000,
-    0x0000000000000000,
-    0x5471000000000000,
-    0x0000000000007900,
-    0x6810000000000000,
-    0x6D10000000000000,
-    0x5470000000000000,
-    0x6C98000000000000,
-    0x5500000000000000,
-    0x5F04000000000000,
-    0x1F08000000000000,
-    0x5101000000000000,
-    0x5700000000000000,
+// Every refusal that a step has, by PC and code. PC odd; past the end; no code; cut short; reads: a byte, a word with the register
+// going up, RTS; writes: a byte with the register going down, two pushes; no row; a quotient that does not fit; left out.
+const HELD: [(u32, u64); 13] = [
+    (9, 0x0000000000000000),
+    (8, 0x0000000000000000),
+    (0, 0x5471000000000000),
+    (6, 0x0000000000007900),
+    (0, 0x6810000000000000),
+    (0, 0x6D10000000000000),
+    (0, 0x5470000000000000),
+    (0, 0x6C98000000000000),
+    (0, 0x5500000000000000),
+    (0, 0x5F04000000000000),
+    (0, 0x1F08000000000000),
+    (0, 0x5101000000000000),
+    (0, 0x5700000000000000),
 ];
 
 // A pattern with no byte twice, so that any change shows.
@@ -1247,32 +832,20 @@ fn filled(pc: u32) -> Registers {
             0x80818283, 0x90919293, 0xA0A1A2A3, 0xB0B1B2B3, 0xC0C1C2C3, 0xD0D1D2D3, 0xE0E1E2E3,
             0xF0F1F2F3,
         ],
-        pc: pc,
-        condition: Condition::from_byte(0xAA),
+        pc,
+        condition: Condition::from(0xAA),
     }
 }
 
-// Whether the record, by value and in place, is after the step what it was before.
-fn holds(rt: &impl Print, k: usize) -> io::Result<bool> {
-    let p = HELD_PC;
-    let c = HELD_CODES;
-    let r = filled(p[k % 13]);
-    let t = small(rt, "held: ", AT, c[k % 13], r)?;
-    let q = t.regs;
-    Ok(t.agreed & same_registers(q, r))
-}
-
+// How many records are, by value and in place, after the step what they were before.
 fn held_records(rt: &impl Print) -> io::Result<u32> {
     let mut held = 0u32;
-    for k in 0..13usize {
-        let same = holds(rt, k)?;
-        held = held + counted(same) % 2;
+    for (pc, code) in HELD {
+        let before = filled(pc);
+        let after = small(rt, "held", AT, code, before)?;
+        held = held.saturating_add((after == Some(before)).into());
     }
     Ok(held)
-}
-
-fn show_agreements(rt: &impl Print, forms: u32, held: u32) -> io::Result<()> {
-    println!(rt; "in place: steps as by value {forms}, records held after a refusal {held}")
 }
 
 fn main(rt: HostRuntime) -> io::Result<()> {
@@ -1290,5 +863,5 @@ fn main(rt: HostRuntime) -> io::Result<()> {
     ends_of_memory(&rt)?;
     vector_in_working_memory(&rt)?;
     let held = held_records(&rt)?;
-    show_agreements(&rt, forms, held)
+    println!(rt; "in place: steps as by value {forms}, records held after a refusal {held}")
 }

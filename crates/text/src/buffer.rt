@@ -1,57 +1,70 @@
 // A line of text that is being written.
-ghost use Rattle.std.specs.Prelude.{◌≡◌, [], ◌∷◌, ◌-◌, replicate};
-ghost use Rattle.text.specs.Lines.{none, Adds};
+ghost use Rattle.std.specs.Prelude.{◌≡◌, [], ◌∷◌, ◌-◌, length, replicate};
+ghost use Rattle.text.specs.Lines.{added};
 
-// Its text is the first n bytes; what does not fit is dropped.
-#[derive(Clone, Copy)]
+use arrayvec::ArrayVec;
+use std::marker::Model;
+
+// It holds 192 bytes; what does not fit is dropped.
+#[derive(Drop)]
 pub struct Line {
-    pub text: [u8; 192],
-    pub n: usize,
+    text: ArrayVec<u8, 192>,
 }
 
-pub fn blank() -> Line
-    ensures { result ≡ none }
-{
-    Line {
-        text: [0u8; 192],
-        n: 0,
-    }
+// Clauses see the bytes that it holds.
+impl Model for Line {
+    ghost use Rattle.std.specs.Prelude.{List, ℕ};
+
+    ghost Value = { List ℕ };
+
+    ghost view = { λ l. l.text.items };
 }
 
-pub fn put(l: Line, b: u8) -> Line
-    ensures { Adds l (b ∷ []) result }
-{
-    let mut q = l;
-    let n = q.n;
-    if n < 192 {
-        q.text[n] = b;
-        q.n = n + 1;
+impl Line {
+    pub fn new() -> Self
+        ensures { result ≡ [] }
+    {
+        Line {
+            text: ArrayVec::new(),
+        }
     }
-    q
-}
 
-pub fn bytes(l: Line, s: &[u8]) -> Line
-    ensures { Adds l s.now result }
-{
-    let mut q = l;
-    let mut i = 0;
-    while i < s.len() {
-        q = put(q, s[i]);
-        i += 1;
+    pub fn as_slice(&self) -> &[u8]
+        ensures { result.now ≡ self.now }
+    {
+        self.text.as_slice()
     }
-    q
-}
 
-// Spaces up to the column k.
-pub fn pad(l: Line, k: usize) -> Line
-    ensures { Adds l (replicate (k - l.n) 32) result }
-{
-    let n = l.n;
-    let mut q = l;
-    let mut i = n;
-    while i < k {
-        q = put(q, b' ');
-        i += 1;
+    #[tactic(auto, unfolding(crate::specs::Lines::added, crate::specs::Lines::put_of))]
+    pub fn byte(&mut self, b: u8)
+        ensures { self.new ≡ added self.old (b ∷ []) }
+    {
+        if !self.text.is_full() {
+            self.text.push(b);
+        }
     }
-    q
+
+    pub fn bytes(&mut self, s: &[u8])
+        ensures { self.new ≡ added self.old s.now }
+    {
+        for b in s {
+            self.byte(*b);
+        }
+    }
+
+    pub fn text(&mut self, s: &str)
+        ensures { self.new ≡ added self.old s.now }
+    {
+        self.bytes(s.as_bytes());
+    }
+
+    // Spaces up to the column k.
+    pub fn pad(&mut self, k: usize)
+        ensures { self.new ≡ added self.old (replicate (k - length self.old) 32) }
+    {
+        let missing = k.saturating_sub(self.text.len());
+        for _ in 0..missing {
+            self.byte(b' ');
+        }
+    }
 }

@@ -1,124 +1,85 @@
-// Numbers in decimal and in hexadecimal.
+// Numbers in decimal and in hexadecimal. By hand: `write!` fails where a line is full, and no clause says what it has written then.
 ghost use Rattle.std.specs.Prelude.{◌≡◌, [], ◌∷◌, ◌+◌, ◌%◌};
-ghost use Rattle.text.specs.Lines.{Adds};
-ghost use Rattle.text.specs.Numbers.{letter_of, glyph_of, hex_of, place_digits, place_of, figures_of, decimal_of, negative_of, signed_of};
+ghost use Rattle.text.specs.Lines.{added};
+ghost use Rattle.text.specs.Numbers.{glyph_of, hex_of, place_of, figures_of, decimal_of, signed_of};
 
-use crate::buffer::{Line, bytes, put};
+use crate::buffer::Line;
 
-fn letter(upper: bool, x: u8) -> u8
-    ensures { result ≡ letter_of upper x }
-{
-    if upper {
-        b'A' - 10 + x % 16
-    } else {
-        b'a' - 10 + x % 16
-    }
-}
-
+// The last hexadecimal digit, a capital letter or a small one from ten on.
+#[tactic(auto, unfolding(crate::specs::Numbers::glyph_of))]
 fn glyph(upper: bool, n: u32) -> u8
     ensures { result ≡ glyph_of upper n }
 {
     let x = (n % 16) as u8;
-    if x < 10 { b'0' + x } else { letter(upper, x) }
-}
-
-fn hex1(l: Line, upper: bool, n: u32) -> Line
-    ensures { Adds l (hex_of upper 1 n) result }
-{
-    put(l, glyph(upper, n))
-}
-
-// The last two hexadecimal digits of n, with capital letters or small ones.
-pub fn hex2(l: Line, upper: bool, n: u32) -> Line
-    ensures { Adds l (hex_of upper 2 n) result }
-{
-    let a = hex1(l, upper, n / 16);
-    hex1(a, upper, n)
-}
-
-pub fn hex4(l: Line, upper: bool, n: u32) -> Line
-    ensures { Adds l (hex_of upper 4 n) result }
-{
-    let a = hex2(l, upper, n / 16 / 16);
-    hex2(a, upper, n)
-}
-
-pub fn hex6(l: Line, upper: bool, n: u32) -> Line
-    ensures { Adds l (hex_of upper 6 n) result }
-{
-    let a = hex4(l, upper, n / 16 / 16);
-    hex2(a, upper, n)
-}
-
-pub fn hex8(l: Line, upper: bool, n: u32) -> Line
-    ensures { Adds l (hex_of upper 8 n) result }
-{
-    let a = hex6(l, upper, n / 16 / 16);
-    hex2(a, upper, n)
-}
-
-fn digits_of_place(l: Line, p: u32) -> Line
-    ensures { Adds l (place_digits p) result }
-{
-    if p < 0x10000 {
-        return hex4(l, false, p);
+    match (x < 10, upper) {
+        (true, _) => b'0' + x,
+        (false, true) => b'A' - 10 + x,
+        (false, false) => b'a' - 10 + x,
     }
-    if p < 0x1000000 {
-        return hex6(l, false, p);
+}
+
+impl Line {
+    // The last hexadecimal digits of n, with capital letters or small ones.
+    #[tactic(auto, using(crate::proofs::Adding::added_append, crate::proofs::Figures::no_digits, crate::proofs::Figures::more_digits), unfolding(crate::specs::Lines::added))]
+    pub fn hex(&mut self, digits: u8, upper: bool, n: u32)
+        ensures { self.new ≡ added self.old (hex_of upper digits n) }
+    {
+        if digits > 0 {
+            self.hex(digits - 1, upper, n / 16);
+            self.byte(glyph(upper, n));
+        }
     }
-    hex8(l, false, p)
-}
 
-// An address as this tool reads and writes it: 0x and four digits or more.
-pub fn place(l: Line, p: u32) -> Line
-    ensures { Adds l (place_of p) result }
-{
-    let a = bytes(l, b"0x");
-    digits_of_place(a, p)
-}
-
-fn digit(l: Line, n: u64) -> Line
-    ensures { Adds l ((48 + n % 10) ∷ []) result }
-{
-    let x = (n % 10) as u8;
-    put(l, b'0' + x)
-}
-
-// The digits of n, at most k + 1 of them.
-fn figures(l: Line, k: u8, n: u64) -> Line
-    ensures { Adds l (figures_of k n) result }
-{
-    if k == 0 {
-        return digit(l, n);
+    // An address as this tool reads and writes it: 0x and four digits or more.
+    #[tactic(auto, using(crate::proofs::Adding::added_append), unfolding(crate::specs::Lines::added, crate::specs::Numbers::place_digits))]
+    pub fn place(&mut self, p: u32)
+        ensures { self.new ≡ added self.old (place_of p) }
+    {
+        self.text("0x");
+        if p < 0x10000 {
+            self.hex(4, false, p);
+        } else if p < 0x1000000 {
+            self.hex(6, false, p);
+        } else {
+            self.hex(8, false, p);
+        }
     }
-    if n < 10 {
-        return digit(l, n);
+
+    fn digit(&mut self, n: u64)
+        ensures { self.new ≡ added self.old ((48 + n % 10) ∷ []) }
+    {
+        self.byte(b'0' + (n % 10) as u8);
     }
-    let a = figures(l, k - 1, n / 10);
-    digit(a, n)
-}
 
-pub fn decimal(l: Line, n: u64) -> Line
-    ensures { Adds l (decimal_of n) result }
-{
-    figures(l, 19, n)
-}
+    // The digits of n, at most k + 1 of them.
+    #[tactic(auto, using(crate::proofs::Adding::added_append, crate::proofs::Figures::last_figure, crate::proofs::Figures::small_figure, crate::proofs::Figures::more_figures), unfolding(crate::specs::Lines::added))]
+    fn figures(&mut self, k: u8, n: u64)
+        ensures { self.new ≡ added self.old (figures_of k n) }
+    {
+        if k > 0 && n >= 10 {
+            self.figures(k - 1, n / 10);
+            self.digit(n);
+        } else {
+            self.digit(n);
+        }
+    }
 
-fn negative(l: Line, d: u16) -> Line
-    ensures { Adds l (negative_of d) result }
-{
-    let a = put(l, b'-');
-    let x = d as u64;
-    decimal(a, 65536 - x)
-}
+    pub fn decimal(&mut self, n: u64)
+        ensures { self.new ≡ added self.old (decimal_of n) }
+    {
+        self.figures(19, n);
+    }
 
-// A displacement d:16, by its bits, as a signed number.
-pub fn signed(l: Line, d: u16) -> Line
-    ensures { Adds l (signed_of d) result }
-{
-    if d < 32768 {
-        decimal(l, d as u64)
-    } else {
-        negative(l, d)
+    // A displacement d:16, by its bits, as a signed number.
+    #[tactic(auto, using(crate::proofs::Adding::added_append), unfolding(crate::specs::Lines::added, crate::specs::Numbers::signed_of))]
+    pub fn signed(&mut self, d: u16)
+        ensures { self.new ≡ added self.old (signed_of d) }
+    {
+        if d < 32768 {
+            self.decimal(u64::from(d));
+        } else {
+            self.byte(b'-');
+            self.decimal(65536 - u64::from(d));
+        }
     }
 }

@@ -1,9 +1,11 @@
 -- What the parts of the executor with memory come to. Assumes nothing.
+use Rattle.std.specs.Prelude.{Result, Ok}
 use Prim.Native.Nat.{ℕ, ◌+◌, ◌/◌, ◌%◌}
 use mathlib.Core.Path.{◌≡◌, refl, sym, ap}
 use mathlib.Core.Bool.{Bool, true, false, cond}
 use mathlib.Core.List.{List, [], ◌∷◌}
 use lib.Dec.{eqb}
+use Rattle.refusal.specs.declared.Refusal.{Refusal}
 use Rattle.arith.specs.declared.Width.{Width}
 use Rattle.arith.specs.declared.Width.TheVariants.{Long}
 use Rattle.site.specs.declared.Site.{Site}
@@ -12,7 +14,6 @@ use Rattle.registers.specs.declared.Registers.{Registers}
 use Rattle.registers.specs.Lent.{lent, part_in}
 use Rattle.registers.specs.Parts.{part_of}
 use Rattle.memory.specs.declared.Board.{Board}
-use Rattle.memory.specs.declared.Got.TheVariants.{Value}
 use Rattle.operate.specs.declared.Deed.{Deed}
 use Rattle.operate.specs.MirrorLent.{effect_in}
 use Rattle.operate.specs.Results.{Effect}
@@ -33,8 +34,6 @@ use Rattle.codes.specs.declared.Way.{Way}
 use Rattle.codes.specs.declared.Way.TheVariants.{Up, Down}
 use Rattle.codes.specs.declared.Instruction.{Instruction}
 use Rattle.codes.specs.declared.Instruction.TheVariants.{Move, Jmp, Bsr, Jsr, Rts}
-use Rattle.codes.specs.declared.Decoded.{Decoded}
-use Rattle.codes.specs.declared.Decoded.TheVariants.{Code}
 use Rattle.step.specs.Follow.{follow_of}
 use Rattle.step.specs.Step.{after, effect_of, transfer_of, carry_of, obey_of, act_of}
 use Rattle.turns.specs.MirrorTurn.{ended_of, told_in, TurnsOn, touched_by}
@@ -72,14 +71,14 @@ module _ (er er' ram ram' : List ℕ) (pc : ℕ) (f : Condition) (b : Board) (e 
   module _ (rom : List ℕ) (w : Width) where
     -- @ER+ and @-ER
     pub step_loads : (r d n : ℕ) → x ≡ sum_of b.site (made_at Load w (part_in Long er r)) → effect_in er' pc e ≡ load_of w (Step r) d (lent er pc f) b rom ram
-        → TurnsOn (Code (Move Load w (Step r) d) n) er er' pc f b rom ram ram (ended_of e.outcome e.condition (next_of pc n) (move_base w (Step r) + x))
+        → TurnsOn (Ok (Move Load w (Step r) d, n)) er er' pc f b rom ram ram (ended_of e.outcome e.condition (next_of pc n) (move_base w (Step r) + x))
     unfolding effect_of transfer_of follow_of base_of address_of part_of
     step_loads r d n h q =
         ended_taking (Move Load w (Step r) d) n (next_of pc n) er pc f b rom ram _ er' ram e
         (λ o. rw h (sym (states_once b.site (lent er pc f) (Move Load w (Step r) d) (touch Load w (Step r)) refl))) refl (ap (λ (y : Effect). stepped y ram) q)
 
     pub step_stores : (r d n : ℕ) → x ≡ sum_of b.site (made_at Load w (part_in Long er' r)) → stepped (effect_in er' pc e) ram' ≡ store_of w (Step r) d (lent er pc f) b ram
-        → TurnsOn (Code (Move Store w (Step r) d) n) er er' pc f b rom ram ram' (ended_of e.outcome e.condition (next_of pc n) (move_base w (Step r) + x))
+        → TurnsOn (Ok (Move Store w (Step r) d, n)) er er' pc f b rom ram ram' (ended_of e.outcome e.condition (next_of pc n) (move_base w (Step r) + x))
     unfolding effect_of transfer_of follow_of base_of
     step_stores r d n h q =
         ended_taking (Move Store w (Step r) d) n (next_of pc n) er pc f b rom ram _ er' ram' e
@@ -103,15 +102,15 @@ module _ (er er' ram ram' : List ℕ) (pc : ℕ) (f : Condition) (b : Board) (e 
 
 -- a call, where n is its states without the push
 pub call_acts : (i : Instruction) (l to n : ℕ) (er : List ℕ) (pc : ℕ) (f : Condition) (b : Board) (rom ram : List ℕ)
-    → states_at b.site (lent er pc f) i ≡ n + push_cost b.site (lent er pc f) → follow_of (lent er pc f) b rom ram (goes_of i) (next_of pc l) ≡ Value to
+    → states_at b.site (lent er pc f) i ≡ n + push_cost b.site (lent er pc f) → follow_of (lent er pc f) b rom ram (goes_of i) (next_of pc l) ≡ Ok to
     → effect_of (next_of pc l) (lent er pc f) b rom ram i ≡ push_of (next_of pc l) (lent er pc f) b ram
-    → finished (push_of (next_of pc l) (lent er pc f) b ram) (lent er pc f) to (n + push_cost b.site (lent er pc f)) ≡ act_of (Code i l) (lent er pc f) b rom ram
+    → finished (push_of (next_of pc l) (lent er pc f) b ram) (lent er pc f) to (n + push_cost b.site (lent er pc f)) ≡ act_of (Ok (i, l)) (lent er pc f) b rom ram
 unfolding act_of obey_of carry_of
 call_acts i l to n er pc f b rom ram t w x = rw (w, x, t)
 
 -- MOV at a place that leaves its register alone is MOV at the place's address
 module _ (dir : Dir) (w : Width) (er : List ℕ) (pc : ℕ) (f : Condition) (b : Board) (rom ram : List ℕ) where
-  abbrev Moves : Decoded → Aim → Type 0
+  abbrev Moves : Result (Instruction × ℕ) Refusal → Aim → Type 0
   Moves c a = moved_at dir w a (lent er pc f) b rom ram ≡ act_of c (lent er pc f) b rom ram
 
   moved_takes : (g : Dir) (p : Place) (d : ℕ) → ((way : Way) → step_over way w p (lent er pc f) ≡ lent er pc f)
@@ -121,12 +120,12 @@ module _ (dir : Dir) (w : Width) (er : List ℕ) (pc : ℕ) (f : Condition) (b :
   moved_takes Store p d h = rw (h Down) at (states_once b.site (lent er pc f) (Move Store w p d) (touch Store w p) refl)
 
   at_address : (g : Dir) (p : Place) (d n : ℕ) → ((way : Way) → step_over way w p (lent er pc f) ≡ lent er pc f)
-      → moved_at g w (aim (address_of p (lent er pc f)) d (next_of pc n) (move_base w p)) (lent er pc f) b rom ram ≡ act_of (Code (Move g w p d) n) (lent er pc f) b rom ram
+      → moved_at g w (aim (address_of p (lent er pc f)) d (next_of pc n) (move_base w p)) (lent er pc f) b rom ram ≡ act_of (Ok (Move g w p d, n)) (lent er pc f) b rom ram
   unfolding moved_at transfer_of load_of store_of step_over address_of act_of obey_of carry_of follow_of effect_of
   at_address Load p d n h = rw (moved_takes Load p d h, h Up)
   at_address Store p d n h = rw (moved_takes Store p d h, h Down)
 
-  both : (t : Bool) (c c' : Decoded) (a a' : Aim) → Moves c a → Moves c' a' → Moves (cond t c c') (cond t a a')
+  both : (t : Bool) (c c' : Result (Instruction × ℕ) Refusal) (a a' : Aim) → Moves c a → Moves c' a' → Moves (cond t c c') (cond t a a')
   both true c c' a a' h k = h
   both false c c' a a' h k = k
 
@@ -135,7 +134,7 @@ module _ (dir : Dir) (w : Width) (er : List ℕ) (pc : ℕ) (f : Condition) (b :
       (disp : (e d : ℕ) → move_base w (Disp e d) ≡ s + 2) (abs8 : (a : ℕ) → move_base w (Abs8 a) ≡ s) (abs16 : (a : ℕ) → move_base w (Abs16 a) ≡ s + 2)
       (abs24 : (a : ℕ) → move_base w (Abs24 a) ≡ s + 4) where
     row : (p : Place) (d d' l a t : ℕ) → ((way : Way) → step_over way w p (lent er pc f) ≡ lent er pc f) → d' ≡ d → a ≡ address_of p (lent er pc f)
-        → move_base w p ≡ t → Moves (Code (Move dir w p d) l) (aim a d' (next_of pc l) t)
+        → move_base w p ≡ t → Moves (Ok (Move dir w p d, l)) (aim a d' (next_of pc l) t)
     row p d d' l a t h u v q = rw (u, v, sym q) (at_address dir p d l h)
 
     pub aimed_moves : (k : ℕ) → eqb k 1 ≡ false → Moves (move_by k dir w m n x) (aim_in k m x pc n s er)
@@ -151,7 +150,7 @@ module _ (dir : Dir) (w : Width) (er : List ℕ) (pc : ℕ) (f : Condition) (b :
 
 -- and it touches what its place says
 module _ (dir : Dir) (w : Width) (er : List ℕ) (pc : ℕ) (f : Condition) (t : ℕ) where
-  abbrev Notes-as : Decoded → ℕ → Type 0
+  abbrev Notes-as : Result (Instruction × ℕ) Refusal → ℕ → Type 0
   Notes-as c a = trail_of (lent er pc f) t (touch dir w (Abs24 a) ∷ []) ≡ trail_of (lent er pc f) t (touched_by c)
 
   noted_at : (g : Dir) (p : Place) (a : ℕ) → ((way : Way) → step_over way w p (lent er pc f) ≡ lent er pc f) → a ≡ address_of p (lent er pc f)
@@ -160,7 +159,7 @@ module _ (dir : Dir) (w : Width) (er : List ℕ) (pc : ℕ) (f : Condition) (t :
   noted_at Load p a h e = rw e
   noted_at Store p a h e = rw (e, h Down)
 
-  either : (b : Bool) (c c' : Decoded) (a a' : Aim) → Notes-as c a.address → Notes-as c' a'.address → Notes-as (cond b c c') (cond b a a').address
+  either : (b : Bool) (c c' : Result (Instruction × ℕ) Refusal) (a a' : Aim) → Notes-as c a.address → Notes-as c' a'.address → Notes-as (cond b c c') (cond b a a').address
   either true c c' a a' h k = h
   either false c c' a a' h k = k
 

@@ -1,5 +1,6 @@
 -- What the parts of the executor with memory hand on. Nothing here is to be believed.
-use Rattle.std.specs.Prelude.{ℕ, ◌+◌, ◌*◌, ◌/◌, ◌%◌, ◌≡◌, false, cond, List, eqb}
+use Rattle.std.specs.Prelude.{ℕ, ◌+◌, ◌*◌, ◌/◌, ◌%◌, ◌≡◌, false, cond, List, eqb, Result, Ok}
+use Rattle.refusal.specs.declared.Refusal.{Refusal}
 use Rattle.arith.specs.Logic.{exts_of}
 use Rattle.arith.specs.Sums.{add_of}
 use Rattle.arith.specs.declared.Width.{Width}
@@ -19,8 +20,6 @@ use Rattle.codes.specs.declared.Dir.TheVariants.{Load, Store}
 use Rattle.codes.specs.declared.Place.{Place}
 use Rattle.codes.specs.declared.Place.TheVariants.{Step, Abs24}
 use Rattle.codes.specs.declared.Instruction.{Instruction}
-use Rattle.codes.specs.declared.Decoded.{Decoded}
-use Rattle.codes.specs.declared.Decoded.TheVariants.{Code}
 use Rattle.step.specs.Step.{After, after, finish_of, transfer_of}
 use Rattle.turns.specs.MirrorTurn.{told_in, TurnsOn}
 use Rattle.turns.specs.declared.Turn.{Turn}
@@ -28,10 +27,10 @@ use Rattle.transfer.specs.declared.moving.Aim.{Aim}
 
 -- whatever the place and the length of the code: RTS and JMP @@aa:8, which ask neither
 abbrev pub Anywhere : Instruction → List ℕ → List ℕ → Condition → Board → List ℕ → List ℕ → Turn → Type 0
-Anywhere i er er' f b rom ram t = (pc n : ℕ) → TurnsOn (Code i n) er er' pc f b rom ram ram t
+Anywhere i er er' f b rom ram t = (pc n : ℕ) → TurnsOn (Ok (i, n)) er er' pc f b rom ram ram t
 
 -- whatever read-only memory is: BSR, which reads none
-abbrev pub AnyCode : Decoded → List ℕ → List ℕ → ℕ → Condition → Board → List ℕ → List ℕ → Turn → Type 0
+abbrev pub AnyCode : Result (Instruction × ℕ) Refusal → List ℕ → List ℕ → ℕ → Condition → Board → List ℕ → List ℕ → Turn → Type 0
 AnyCode d er er' pc f b ram ram' t = (rom : List ℕ) → TurnsOn d er er' pc f b rom ram ram' t
 
 -- an effect and memory, with PC set to p

@@ -2,19 +2,18 @@
 // puts it into that loop. MOV with memory is in `moving`.
 #![tactic(auto)]
 
-ghost use Rattle.std.specs.Prelude.{◌≡◌, ◌%◌};
+ghost use Rattle.std.specs.Prelude.{◌≡◌, ◌%◌, Ok};
 ghost use Rattle.codes.specs.Cycles.{pushes, touches_of};
 ghost use Rattle.codes.specs.declared.Reach.TheVariants.{Near, Far};
 ghost use Rattle.codes.specs.declared.Target.TheVariants.{Vector};
 ghost use Rattle.codes.specs.declared.Instruction.TheVariants.{Jmp, Bsr, Jsr, Rts};
-ghost use Rattle.codes.specs.declared.Decoded.TheVariants.{Code};
 ghost use Rattle.turns.specs.MirrorTurn.{TurnsOn, Trails, touched_by};
 ghost use Rattle.entry.specs.Entry as Entry;
 ghost use Rattle.transfer.specs.MirrorTransfer.{Anywhere, AnyCode, Called};
 
 use arith::Width;
 use codes::Reach;
-use memory::{Board, Got};
+use memory::Board;
 use products::Half;
 use refusal::Refusal;
 use registers::Condition;
@@ -36,11 +35,11 @@ fn returned(
 {
     let at = registers::get(Width::Long, er, 7);
     match memory::read(Width::Long, b, rom, ram, at, trail) {
-        Got::Value(p) => {
+        Ok(p) => {
             let n = 6 + timing::access(b.site, Width::Long, at);
             turns::done(moves::popped(er, f), p, n)
         }
-        Got::NotRead(x) => turns::refuse(f, x),
+        Err(x) => turns::refuse(f, x),
     }
 }
 
@@ -97,8 +96,8 @@ fn jump_vector(
 {
     let at = a as u32;
     match memory::read(Width::Long, b, rom, ram, at, trail) {
-        Got::Value(p) => turns::done(f, p, 6 + timing::access(b.site, Width::Long, at)),
-        Got::NotRead(x) => turns::refuse(f, x),
+        Ok(p) => turns::done(f, p, 6 + timing::access(b.site, Width::Long, at)),
+        Err(x) => turns::refuse(f, x),
     }
 }
 
@@ -132,7 +131,7 @@ fn call_near(
     ram: &mut [u8],
     trail: &mut u64,
 ) -> Turn
-    ensures did { AnyCode (Code (Bsr (Near d)) 2) er.old er.new pc f b ram.old ram.new result }
+    ensures did { AnyCode (Ok (Bsr (Near d), 2)) er.old er.new pc f b ram.old ram.new result }
     ensures told { Trails pushes er.old f trail.old trail.new result }
 {
     let next = flow::next(pc, 2);
@@ -149,7 +148,7 @@ fn call_far(
     ram: &mut [u8],
     trail: &mut u64,
 ) -> Turn
-    ensures did { AnyCode (Code (Bsr (Far d)) 4) er.old er.new pc f b ram.old ram.new result }
+    ensures did { AnyCode (Ok (Bsr (Far d), 4)) er.old er.new pc f b ram.old ram.new result }
     ensures told { Trails pushes er.old f trail.old trail.new result }
 {
     let next = flow::next(pc, 4);
@@ -168,16 +167,16 @@ fn call_vector(
     ram: &mut [u8],
     trail: &mut u64,
 ) -> Turn
-    ensures did { TurnsOn (Code (Jsr (Vector a)) 2) er.old er.new pc f b rom.now ram.old ram.new result }
+    ensures did { TurnsOn (Ok (Jsr (Vector a), 2)) er.old er.new pc f b rom.now ram.old ram.new result }
     ensures told { Trails (touches_of (Jsr (Vector a))) er.old f trail.old trail.new result }
 {
     let at = a as u32;
     match memory::read(Width::Long, b, rom, &ram[..], at, trail) {
-        Got::Value(p) => {
+        Ok(p) => {
             let n = 4 + timing::access(b.site, Width::Long, at);
             called(flow::next(pc, 2), p, n as u16, er, f, b, ram, trail)
         }
-        Got::NotRead(x) => turns::refuse(f, x),
+        Err(x) => turns::refuse(f, x),
     }
 }
 

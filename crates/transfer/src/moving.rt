@@ -1,12 +1,11 @@
 // MOV with memory, kinds 10 to 12. Variants 0 to 5 load, 8 to 13 store: @ER, @ER+ or @-ER, d:16, aa:8, aa:16, aa:24. Each width has functions of its own that are
 // called once: the compiler then puts all of them into the loop of a run.
-ghost use Rattle.std.specs.Prelude.{◌≡◌, ◌/◌, ◌%◌, [], ◌∷◌};
+ghost use Rattle.std.specs.Prelude.{◌≡◌, ◌/◌, ◌%◌, [], ◌∷◌, Ok};
 ghost use Rattle.arith.specs.declared.Width.TheVariants.{Byte, Word, Long};
 ghost use Rattle.arith.specs.Logic.{exts_of};
 ghost use Rattle.codes.specs.Cycles.{touch};
 ghost use Rattle.codes.specs.declared.Place.TheVariants.{Step, Abs24};
 ghost use Rattle.codes.specs.declared.Instruction.TheVariants.{Move};
-ghost use Rattle.codes.specs.declared.Decoded.TheVariants.{Code};
 ghost use Rattle.turns.specs.MirrorTurn.{TurnsOn, Trails, touched_by};
 ghost use Rattle.entry.specs.Entry.{dir_of, moved};
 ghost use Rattle.transfer.specs.MirrorTransfer.{low_of, high_of, displaced_of, aim, aim_in, Transfers};
@@ -122,7 +121,7 @@ fn step_byte(
     ram: &mut [u8],
     trail: &mut u64,
 ) -> Turn
-    ensures did { TurnsOn (Code (Move (dir_of k) Byte (Step (x / 16 % 8)) (x % 16)) 2) er.old er.new pc f b rom.now ram.old ram.new result }
+    ensures did { TurnsOn (Ok (Move (dir_of k) Byte (Step (x / 16 % 8)) (x % 16), 2)) er.old er.new pc f b rom.now ram.old ram.new result }
     ensures told { Trails (touch (dir_of k) Byte (Step (x / 16 % 8)) ∷ []) er.old f trail.old trail.new result }
 {
     let e = (x / 16 % 8) as u8;
@@ -220,7 +219,7 @@ fn step_word(
     ram: &mut [u8],
     trail: &mut u64,
 ) -> Turn
-    ensures did { TurnsOn (Code (Move (dir_of k) Word (Step (x / 16 % 8)) (x % 16)) 2) er.old er.new pc f b rom.now ram.old ram.new result }
+    ensures did { TurnsOn (Ok (Move (dir_of k) Word (Step (x / 16 % 8)) (x % 16), 2)) er.old er.new pc f b rom.now ram.old ram.new result }
     ensures told { Trails (touch (dir_of k) Word (Step (x / 16 % 8)) ∷ []) er.old f trail.old trail.new result }
 {
     let e = (x / 16 % 8) as u8;
@@ -318,7 +317,7 @@ fn step_long(
     ram: &mut [u8],
     trail: &mut u64,
 ) -> Turn
-    ensures did { TurnsOn (Code (Move (dir_of k) Long (Step (x / 8 % 8)) (x % 8)) 4) er.old er.new pc f b rom.now ram.old ram.new result }
+    ensures did { TurnsOn (Ok (Move (dir_of k) Long (Step (x / 8 % 8)) (x % 8), 4)) er.old er.new pc f b rom.now ram.old ram.new result }
     ensures told { Trails (touch (dir_of k) Long (Step (x / 8 % 8)) ∷ []) er.old f trail.old trail.new result }
 {
     let e = (x / 8 % 8) as u8;

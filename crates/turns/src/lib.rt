@@ -1,12 +1,11 @@
 // What an entry comes to: the registers are written where they lie, and the rest is handed back.
 #![tactic(auto)]
 
-ghost use Rattle.std.specs.Prelude.{◌≡◌};
-ghost use Rattle.refusal.specs.declared.Outcome.TheVariants.{Done, Refused};
+ghost use Rattle.std.specs.Prelude.{◌≡◌, Ok, Err};
 ghost use Rattle.turns.specs.MirrorTurn.{turn, ended_of};
 
 use operate::Deed;
-use refusal::{Outcome, Refusal};
+use refusal::Refusal;
 use registers::Condition;
 
 // The condition byte after it, where PC goes, the states, and how it went.
@@ -15,29 +14,29 @@ pub struct Turn {
     pub condition: Condition,
     pub pc: u32,
     pub states: u32,
-    pub outcome: Outcome,
+    pub outcome: Result<(), Refusal>,
 }
 
 pub fn done(f: Condition, p: u32, n: u32) -> Turn
-    ensures { result ≡ turn f p n Done }
+    ensures { result ≡ turn f p n (Ok tt) }
 {
     Turn {
         condition: f,
         pc: p,
         states: n,
-        outcome: Outcome::Done,
+        outcome: Ok(()),
     }
 }
 
 // A refused turn sets no PC and adds no states; f is the condition byte before it.
 pub fn refuse(f: Condition, x: Refusal) -> Turn
-    ensures { result ≡ turn f 0 0 (Refused x) }
+    ensures { result ≡ turn f 0 0 (Err x) }
 {
     Turn {
         condition: f,
         pc: 0,
         states: 0,
-        outcome: Outcome::Refused(x),
+        outcome: Err(x),
     }
 }
 
@@ -47,7 +46,7 @@ pub fn ended(e: Deed, p: u32, n: u32) -> Turn
 {
     let o = e.outcome;
     match o {
-        Outcome::Done => done(e.condition, p, n),
-        Outcome::Refused(x) => refuse(e.condition, x),
+        Ok(()) => done(e.condition, p, n),
+        Err(x) => refuse(e.condition, x),
     }
 }

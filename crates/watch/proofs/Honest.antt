@@ -1,6 +1,7 @@
 -- The list of a step is honest. Each entry of a completed step lies inside: a read in either memory, a write in working memory. A refusal 5 or 6 names the
 -- first access of the instruction that does not. A byte of working memory that no write of the list reaches is unchanged. Of working memory the answer of a
 -- completed step depends only on what the reads of its list reach. Assumes nothing.
+use Rattle.std.specs.Prelude.{Result, Ok, Err, Option, Some, None, Bool}
 use Prim.Native.Nat.{ℕ, ◌+◌, ◌-◌, ◌*◌, ◌/◌, ◌%◌, ◌≤◌, ◌<◌}
 use mathlib.Core.Path.{◌≡◌, refl, sym, ap, ◌∙◌}
 use mathlib.Core.Bool.{Bool, true, false, cond, ◌&&◌, ◌||◌}
@@ -10,26 +11,17 @@ use native.Mathlib.Omega.{arith}
 use lib.Dec.{ltb, eqb}
 use lib.ListN.{length, drop}
 use borrow.Author.Tests.{eqb-true, leb-true, le-leb, lt-ltb}
+use Rattle.arith.specs.declared.Moved.{Moved}
 use Rattle.refusal.specs.Refusals.{number_of}
 use Rattle.refusal.specs.declared.Refusal.{Refusal}
 use Rattle.refusal.specs.declared.Refusal.TheVariants.{BadBoard, FetchOutside, ReadOutside, WriteOutside, NoAdjustRow, DivideFails}
-use Rattle.refusal.specs.declared.Outcome.{Outcome}
-use Rattle.refusal.specs.declared.Outcome.TheVariants.{Done, Refused}
-use Rattle.arith.specs.declared.Adjust.{Adjust}
-use Rattle.arith.specs.declared.Adjust.TheVariants.{Adding, NoRow}
 use Rattle.arith.specs.declared.Width.{Width}
 use Rattle.arith.specs.declared.Width.TheVariants.{Byte, Word, Long}
 use Rattle.products.specs.declared.Half.{Half}
-use Rattle.products.specs.declared.Division.{Division}
-use Rattle.products.specs.declared.Division.TheVariants.{Divided, Fails}
 use Rattle.registers.specs.declared.Registers.{Registers}
-use Rattle.memory.specs.Access.{address, even_address, second_address, inside, byte_at, word_at, read_part, joined, read_long, read_of, room, both, written, write_byte, write_word, write_long, write_of}
+use Rattle.memory.specs.Access.{address, even_address, second_address, inside, byte_at, word_at, read_part, joined, read_long, read_of, room, both, written, write_part, write_byte, write_word, write_long, write_of}
 use Rattle.memory.specs.Reach.{reaches}
 use Rattle.memory.specs.declared.Board.{Board}
-use Rattle.memory.specs.declared.Got.{Got}
-use Rattle.memory.specs.declared.Got.TheVariants.{Value, NotRead}
-use Rattle.memory.specs.declared.Put.{Put}
-use Rattle.memory.specs.declared.Put.TheVariants.{Stored, NotStored}
 use Rattle.memory.proofs.Laws.{write_left, write_others}
 use Rattle.memory.specs.Told.{access_of, accesses_at}
 use Rattle.memory.specs.declared.told.Access.{Access}
@@ -51,7 +43,6 @@ use Rattle.codes.specs.declared.Spot.TheVariants.{InPart, AtEr, AtAbs}
 use Rattle.codes.specs.declared.Target.TheVariants.{ByReg, Direct, Vector}
 use Rattle.codes.specs.declared.Instruction.{Instruction}
 use Rattle.codes.specs.declared.Instruction.TheVariants.{Nop, Stc, LdcReg, Ccr, Alu, IncDec, AddsSubs, Decimal, Shift, Unary, Multiply, Divide, Takes, Gives, Move, Bcc, Jmp, Bsr, Jsr, Rts}
-use Rattle.codes.specs.declared.Decoded.TheVariants.{Code}
 use Rattle.step.specs.declared.StepAnswer.{StepAnswer}
 use Rattle.step.specs.Follow.{aim_of, follow_of}
 use Rattle.step.specs.Step.{transfer_of, effect_of, After, after, answered, stays, finish_of, carry_of, obey_of, act_of, fetch_of, good_start, step_of}
@@ -82,13 +73,13 @@ spared_right p (x ∷ xs) ys s = spared_right p xs ys s.1
 -- ---- one read, one write
 
 -- what an access comes to: inside, or refused at its place
-data Tried (t : Bool) (d : Bool) (p : ℕ) : Got → Type 0 where
-  found : {x : ℕ} → t ≡ true → Tried t d p (Value x)
-  outside : t ≡ false → Tried t d p (NotRead (outside_of (access_of d 1 p)))
+data Tried (t : Bool) (d : Bool) (p : ℕ) : Result ℕ Refusal → Type 0 where
+  found : {x : ℕ} → t ≡ true → Tried t d p (Ok x)
+  outside : t ≡ false → Tried t d p (Err (outside_of (access_of d 1 p)))
 
-data Room (t : Bool) (p : ℕ) : Put → Type 0 where
-  fits : t ≡ true → Room t p Stored
-  full : t ≡ false → Room t p (NotStored (WriteOutside p))
+data Room (t : Bool) (p : ℕ) : Result (Unit {0}) Refusal → Type 0 where
+  fits : t ≡ true → Room t p (Ok tt)
+  full : t ≡ false → Room t p (Err (WriteOutside p))
 
 module _ (b : Board) (rom ram : List ℕ) where
   abbrev Lie : List Access → Type 0
@@ -97,28 +88,28 @@ module _ (b : Board) (rom ram : List ℕ) where
   abbrev Out : List Access → Access → Type 0
   Out xs y = FirstOut b rom ram xs y
 
-  data ReadView (xs : List Access) : Got → Type 0 where
-    all_read : {x : ℕ} → Lie xs → ReadView xs (Value x)
-    one_out : {y : Access} → Out xs y → ReadView xs (NotRead (outside_of y))
+  data ReadView (xs : List Access) : Result ℕ Refusal → Type 0 where
+    all_read : {x : ℕ} → Lie xs → ReadView xs (Ok x)
+    one_out : {y : Access} → Out xs y → ReadView xs (Err (outside_of y))
 
-  data WriteView (xs : List Access) : Put → Type 0 where
-    all_stored : Lie xs → WriteView xs Stored
-    none_stored : {y : Access} → Out xs y → WriteView xs (NotStored (outside_of y))
+  data WriteView (xs : List Access) : Result (Unit {0}) Refusal → Type 0 where
+    all_stored : Lie xs → WriteView xs (Ok tt)
+    none_stored : {y : Access} → Out xs y → WriteView xs (Err (outside_of y))
 
   part_tried : (n : ℕ) (at : List ℕ → ℕ → ℕ) (p : ℕ) → Tried (lies b rom ram (access_of false n p)) false p (read_part n at b rom ram p)
   unfolding read_part
   part_tried n at p = go (inside 0 (length rom) p n) (inside b.base (length ram) p n)
     where
-      go : (t u : Bool) → Tried (t || u) false p (cond t (Value (at rom p)) (cond u (Value (at ram (p - b.base))) (NotRead (ReadOutside p))))
+      go : (t u : Bool) → Tried (t || u) false p (cond t (Ok (at rom p)) (cond u (Ok (at ram (p - b.base))) (Err (ReadOutside p))))
       go true u = found refl
       go false true = found refl
       go false false = outside refl
 
-  single_read : (n p : ℕ) {g : Got} → Tried (lies b rom ram (access_of false n p)) false p g → ReadView (access_of false n p ∷ []) g
+  single_read : (n p : ℕ) {g : Result ℕ Refusal} → Tried (lies b rom ram (access_of false n p)) false p g → ReadView (access_of false n p ∷ []) g
   single_read n p (found e) = all_read (more e none)
   single_read n p (outside e) = one_out (here e)
 
-  double_read : (p q : ℕ) {g h : Got} → Tried (lies b rom ram (access_of false 2 p)) false p g → Tried (lies b rom ram (access_of false 2 q)) false q h
+  double_read : (p q : ℕ) {g h : Result ℕ Refusal} → Tried (lies b rom ram (access_of false 2 p)) false p g → Tried (lies b rom ram (access_of false 2 q)) false q h
       → ReadView (access_of false 2 p ∷ access_of false 2 q ∷ []) (joined g h)
   unfolding joined
   double_read p q (found e) (found f) = all_read (more e (more f none))
@@ -134,28 +125,28 @@ module _ (b : Board) (rom ram : List ℕ) where
   room_tried : (n p : ℕ) → Room (lies b rom ram (access_of true n p)) p (room n b ram p)
   room_tried n p = go (inside b.base (length ram) p n)
     where
-      go : (t : Bool) → Room t p (cond t Stored (NotStored (WriteOutside p)))
+      go : (t : Bool) → Room t p (cond t (Ok tt) (Err (WriteOutside p)))
       go true = fits refl
       go false = full refl
 
-  single_room : (n p : ℕ) {g : Put} → Room (lies b rom ram (access_of true n p)) p g → WriteView (access_of true n p ∷ []) g
+  single_room : (n p : ℕ) {g : Result (Unit {0}) Refusal} → Room (lies b rom ram (access_of true n p)) p g → WriteView (access_of true n p ∷ []) g
   single_room n p (fits e) = all_stored (more e none)
   single_room n p (full e) = none_stored (here e)
 
-  double_room : (p q : ℕ) {g h : Put} → Room (lies b rom ram (access_of true 2 p)) p g → Room (lies b rom ram (access_of true 2 q)) q h
+  double_room : (p q : ℕ) {g h : Result (Unit {0}) Refusal} → Room (lies b rom ram (access_of true 2 p)) p g → Room (lies b rom ram (access_of true 2 q)) q h
       → WriteView (access_of true 2 p ∷ access_of true 2 q ∷ []) (both g h)
   unfolding both
   double_room p q (fits e) (fits f) = all_stored (more e (more f none))
   double_room p q (fits e) (full f) = none_stored (there e (here f))
   double_room p q (full e) u = none_stored (here e)
 
-  put_is : (xs : List Access) (p : Put) (m : List ℕ) → WriteView xs p → WriteView xs (written p ram m).put
+  put_is : (xs : List Access) (p : Result (Unit {0}) Refusal) (m : List ℕ) → WriteView xs p → WriteView xs (written p ram m).put
   unfolding written
-  put_is xs Stored m v = v
-  put_is xs (NotStored f) m v = v
+  put_is xs (Ok tt) m v = v
+  put_is xs (Err f) m v = v
 
   write_view : (w : Width) (a x : ℕ) → WriteView (made_at Store w a) (write_of w b ram a x).put
-  unfolding made_at accesses_at write_of write_byte write_word write_long
+  unfolding made_at accesses_at write_of write_part write_long
   write_view Byte a x = put_is _ _ _ (single_room 1 (address a) (room_tried 1 (address a)))
   write_view Word a x = put_is _ _ _ (single_room 2 (even_address a) (room_tried 2 (even_address a)))
   write_view Long a x = put_is _ _ _ (double_room (even_address a) (second_address a) (room_tried 2 (even_address a)) (room_tried 2 (second_address a)))
@@ -207,7 +198,7 @@ module _ (b : Board) (rom ram : List ℕ) (r : Registers) where
   after_reads u (did_none o) = did_none (out_right b rom ram u o)
   after_reads u (otherwise f h k) = otherwise f h k
 
-  write_effect : (w : Width) (a x : ℕ) (q : Registers) (p : Put) → (write_of w b ram a x).put ≡ p → WriteView b rom ram (made_at Store w a) p
+  write_effect : (w : Width) (a x : ℕ) (q : Registers) (p : Result (Unit {0}) Refusal) → (write_of w b ram a x).put ≡ p → WriteView b rom ram (made_at Store w a) p
       → EffectView (made_at Store w a) (stepped (stored_of p r q) (write_of w b ram a x).mem)
   unfolding stored_of
   write_effect w a x q p e (all_stored u) = did_all u (λ k s. write_others w b ram a x k (spared_unreached w a (b.base + k) s))
@@ -216,34 +207,34 @@ module _ (b : Board) (rom ram : List ℕ) (r : Registers) where
   stored_effect : (w : Width) (a x : ℕ) (q : Registers) → EffectView (made_at Store w a) (stepped (stored_of (write_of w b ram a x).put r q) (write_of w b ram a x).mem)
   stored_effect w a x q = write_effect w a x q _ refl (write_view b rom ram w a x)
 
-  load_effect : (w : Width) (d : ℕ) (xs : List Access) (raised : Registers) (g : Got) → ReadView b rom ram xs g → EffectView xs (stepped (loaded_of g w d r raised) ram)
+  load_effect : (w : Width) (d : ℕ) (xs : List Access) (raised : Registers) (g : Result ℕ Refusal) → ReadView b rom ram xs g → EffectView xs (stepped (loaded_of g w d r raised) ram)
   unfolding loaded_of
   load_effect w d xs raised g (all_read u) = did_all u (λ k s. refl)
   load_effect w d xs raised g (one_out o) = did_none o
 
-  took_effect : (take : Take) (index : Index) (xs : List Access) (g : Got) → ReadView b rom ram xs g → EffectView xs (stepped (took_from g take index r) ram)
+  took_effect : (take : Take) (index : Index) (xs : List Access) (g : Result ℕ Refusal) → ReadView b rom ram xs g → EffectView xs (stepped (took_from g take index r) ram)
   unfolding took_from
   took_effect take index xs g (all_read u) = did_all u (λ k s. refl)
   took_effect take index xs g (one_out o) = did_none o
 
-  gave_effect : (give : Give) (index : Index) (a : ℕ) (xs : List Access) (g : Got) → ReadView b rom ram xs g → EffectView (xs ++ made_at Store Byte a) (gave_to g give index a r b ram)
+  gave_effect : (give : Give) (index : Index) (a : ℕ) (xs : List Access) (g : Result ℕ Refusal) → ReadView b rom ram xs g → EffectView (xs ++ made_at Store Byte a) (gave_to g give index a r b ram)
   unfolding gave_to
   gave_effect give index a xs g (all_read u) = after_reads u (stored_effect Byte a _ r)
   gave_effect give index a xs g (one_out o) = did_none (out_left b rom ram _ o)
 
-  adjust_effect : (a : Adjust) (x d : ℕ) → EffectView [] (stepped (adjusted_of a x d r) ram)
+  adjust_effect : (a : Option (ℕ × Bool)) (x d : ℕ) → EffectView [] (stepped (adjusted_of a x d r) ram)
   unfolding adjusted_of
-  adjust_effect (Adding v c) x d = quiet_effect _
-  adjust_effect NoRow x d = otherwise (NoAdjustRow r.pc) (λ e. omega arith) (λ e. omega arith)
+  adjust_effect (Some (v, c)) x d = quiet_effect _
+  adjust_effect None x d = otherwise (NoAdjustRow r.pc) (λ e. omega arith) (λ e. omega arith)
 
-  divide_effect : (q : Division) (h : Half) (d : ℕ) → EffectView [] (stepped (divided_of q h d r) ram)
+  divide_effect : (q : Option Moved) (h : Half) (d : ℕ) → EffectView [] (stepped (divided_of q h d r) ram)
   unfolding divided_of
-  divide_effect (Divided x) h d = quiet_effect _
-  divide_effect Fails h d = otherwise (DivideFails r.pc) (λ e. omega arith) (λ e. omega arith)
+  divide_effect (Some x) h d = quiet_effect _
+  divide_effect None h d = otherwise (DivideFails r.pc) (λ e. omega arith) (λ e. omega arith)
 
   -- what a step at an instruction comes to, by its accesses
   data Honest (xs : List Access) : After → Type 0 where
-    done : {q : Registers} {n : ℕ} {m : List ℕ} → AllLie b rom ram xs → Stays xs m → Honest xs (after (answered q n Done) m)
+    done : {q : Registers} {n : ℕ} {m : List ℕ} → AllLie b rom ram xs → Stays xs m → Honest xs (after (answered q n (Ok tt)) m)
     failed : {y : Access} → FirstOut b rom ram xs y → Honest xs (after (stays r (outside_of y)) ram)
     other : (f : Refusal) → (number_of f ≡ 5 → ⊥) → (number_of f ≡ 6 → ⊥) → Honest xs (after (stays r f) ram)
 
@@ -253,19 +244,19 @@ module _ (b : Board) (rom ram : List ℕ) (r : Registers) where
   finished p n (did_none o) = failed o
   finished p n (otherwise f h k) = other f h k
 
-  carried : {xs ys : List Access} (g : Got) (i : Instruction) (next : ℕ) → ReadView b rom ram xs g → EffectView ys (effect_of next r b rom ram i)
+  carried : {xs ys : List Access} (g : Result ℕ Refusal) (i : Instruction) (next : ℕ) → ReadView b rom ram xs g → EffectView ys (effect_of next r b rom ram i)
       → Honest (xs ++ ys) (carry_of g i next r b rom ram)
   unfolding carry_of
   carried g i next (all_read u) v = finished _ _ (after_reads u v)
   carried g i next (one_out o) v = failed (out_left b rom ram _ o)
 
   -- what finds no target in memory, and what does
-  onward : (i : Instruction) (n p : ℕ) → follow_of r b rom ram (goes_of i) (next_of r.pc n) ≡ Value p
+  onward : (i : Instruction) (n p : ℕ) → follow_of r b rom ram (goes_of i) (next_of r.pc n) ≡ Ok p
       → EffectView (made_of r i) (effect_of (next_of r.pc n) r b rom ram i) → Honest (made_of r i) (obey_of i n r b rom ram)
   unfolding obey_of carry_of
   onward i n p e v = rw e (finished p (states_at b.site r i) v)
 
-  through : (i : Instruction) (n : ℕ) {xs ys : List Access} (g : Got) → follow_of r b rom ram (goes_of i) (next_of r.pc n) ≡ g → ReadView b rom ram xs g
+  through : (i : Instruction) (n : ℕ) {xs ys : List Access} (g : Result ℕ Refusal) → follow_of r b rom ram (goes_of i) (next_of r.pc n) ≡ g → ReadView b rom ram xs g
       → EffectView ys (effect_of (next_of r.pc n) r b rom ram i) → made_of r i ≡ xs ++ ys → Honest (made_of r i) (obey_of i n r b rom ram)
   unfolding obey_of
   through i n g e u v m = rw (e, m) (carried g i (next_of r.pc n) u v)
@@ -305,7 +296,7 @@ module _ (b : Board) (rom ram : List ℕ) (r : Registers) where
   honest (Jsr (Vector a)) n = through (Jsr (Vector a)) n _ refl (read_view b rom ram Long a) (alone (stored_effect Long _ _ _)) refl
   honest Rts n = through Rts n _ refl (read_view b rom ram Long _) (quiet_effect _) refl
 
-  done_lies : {xs : List Access} {a : After} → Honest xs a → a.answer.outcome ≡ Done → AllLie b rom ram xs
+  done_lies : {xs : List Access} {a : After} → Honest xs a → a.answer.outcome ≡ Ok tt → AllLie b rom ram xs
   done_lies (done u t) e = u
   done_lies (failed o) e = let z : ◌≡◌ {A = ℕ} 0 1 = cc in absurd (omega arith)
   done_lies (other f h k) e = let z : ◌≡◌ {A = ℕ} 0 1 = cc in absurd (omega arith)
@@ -317,7 +308,7 @@ module _ (b : Board) (rom ram : List ℕ) (r : Registers) where
 
   -- ---- a step
 
-  at_honest : {i : Instruction} {n : ℕ} → At (Code i n) b rom ram r → Honest (made_of r i) (step_of b rom ram r)
+  at_honest : {i : Instruction} {n : ℕ} → At (Ok (i, n)) b rom ram r → Honest (made_of r i) (step_of b rom ram r)
   unfolding act_of
   at_honest {i} {n} h = rw (at_step h) (honest i n)
 
@@ -326,19 +317,19 @@ module _ (b : Board) (rom ram : List ℕ) (r : Registers) where
   unfolding list_of listed
   list_lies = go _ refl
     where
-      go : (o : Outcome) → (step_of b rom ram r).answer.outcome ≡ o → AllLie b rom ram (listed o (made_by (decode_of r.pc (drop r.pc rom)) r))
-      go Done e = let (i, n, h) = done_at b rom ram r e in rw h.is (done_lies (at_honest h) e)
-      go (Refused f) e = none
+      go : (o : Result (Unit {0}) Refusal) → (step_of b rom ram r).answer.outcome ≡ o → AllLie b rom ram (listed o (made_by (decode_of r.pc (drop r.pc rom)) r))
+      go (Ok tt) e = let (i, n, h) = done_at b rom ram r e in rw h.is (done_lies (at_honest h) e)
+      go (Err f) e = none
 
   -- a byte of working memory that no write of the list reaches stays
   pub list_spares : (k : ℕ) → Spared (b.base + k) (list_of b rom ram r) → byte_at (step_of b rom ram r).mem k ≡ byte_at ram k
   unfolding list_of listed
   list_spares k s = go _ refl s
     where
-      go : (o : Outcome) → (step_of b rom ram r).answer.outcome ≡ o → Spared (b.base + k) (listed o (made_by (decode_of r.pc (drop r.pc rom)) r))
+      go : (o : Result (Unit {0}) Refusal) → (step_of b rom ram r).answer.outcome ≡ o → Spared (b.base + k) (listed o (made_by (decode_of r.pc (drop r.pc rom)) r))
           → byte_at (step_of b rom ram r).mem k ≡ byte_at ram k
-      go Done e s = let (i, n, h) = done_at b rom ram r e in honest_stays (at_honest h) k (rw h.is at s)
-      go (Refused f) e s = ap (λ (a : After). byte_at a.mem k) (step_refused r b rom ram f e)
+      go (Ok tt) e s = let (i, n, h) = done_at b rom ram r e in honest_stays (at_honest h) k (rw h.is at s)
+      go (Err f) e s = ap (λ (a : After). byte_at a.mem k) (step_refused r b rom ram f e)
 
   pub told_spares : (a : StepAnswer) (ram' : List ℕ) → after a ram' ≡ step_of b rom ram r → (xs : List Access) → xs ≡ list_of b rom ram r → Spares b ram ram' xs
   told_spares a ram' s xs l k u = ap (λ (x : After). byte_at x.mem k) s ∙ list_spares k (rw l at u)
@@ -347,13 +338,13 @@ module _ (b : Board) (rom ram : List ℕ) (r : Registers) where
   neither f g z h k m = ⊎_elim (λ x. h (rw z at x)) (λ x. k (rw z at x)) m
 
   -- a refusal 5 or 6 names the first access of the instruction that does not lie inside
-  first_named : {xs : List Access} {a : After} (f : Refusal) → Honest xs a → a.answer.outcome ≡ Refused f → (number_of f ≡ 5) ⊎ (number_of f ≡ 6)
+  first_named : {xs : List Access} {a : After} (f : Refusal) → Honest xs a → a.answer.outcome ≡ Err f → (number_of f ≡ 5) ⊎ (number_of f ≡ 6)
       → (y : Access) × FirstOut b rom ram xs y × (f ≡ outside_of y)
   first_named f (done u t) e n = let z : ◌≡◌ {A = ℕ} 0 1 = cc in absurd (omega arith)
   first_named f (failed {y} o) e n = (y, o, cc)
   first_named f (other g h k) e n = let z : f ≡ g = cc in absurd (neither f g z h k n)
 
-  pub names_first : (i : Instruction) (n : ℕ) (f : Refusal) → decode_of r.pc (drop r.pc rom) ≡ Code i n → (step_of b rom ram r).answer.outcome ≡ Refused f
+  pub names_first : (i : Instruction) (n : ℕ) (f : Refusal) → decode_of r.pc (drop r.pc rom) ≡ Ok (i, n) → (step_of b rom ram r).answer.outcome ≡ Err f
       → (number_of f ≡ 5) ⊎ (number_of f ≡ 6) → (y : Access) × FirstOut b rom ram (made_of r i) y × (f ≡ outside_of y)
   unfolding step_of fetch_of
   names_first i n f d e m = go _ _ refl refl
@@ -397,8 +388,8 @@ module _ (b : Board) (rom ram ram' : List ℕ) where
   unfolding read_part
   part_alike n at p l h = rw l (go (inside 0 (length rom) p n) (inside b.base (length ram) p n) refl)
     where
-      go : (t u : Bool) → inside b.base (length ram) p n ≡ u → cond t (Value (at rom p)) (cond u (Value (at ram' (p - b.base))) (NotRead (ReadOutside p)))
-          ≡ cond t (Value (at rom p)) (cond u (Value (at ram (p - b.base))) (NotRead (ReadOutside p)))
+      go : (t u : Bool) → inside b.base (length ram) p n ≡ u → cond t (Ok (at rom p)) (cond u (Ok (at ram' (p - b.base))) (Err (ReadOutside p)))
+          ≡ cond t (Ok (at rom p)) (cond u (Ok (at ram (p - b.base))) (Err (ReadOutside p)))
       go true u e = refl
       go false true e = rw (h e)
       go false false e = refl
@@ -422,14 +413,14 @@ module _ (b : Board) (rom ram ram' : List ℕ) where
   read_alike Word a h = word_alike (even_address a) h
   read_alike Long a h = rw (word_alike (even_address a) h, word_alike (second_address a) (tail_alike h))
 
-  put_of : (p : Put) (m m' : List ℕ) → (written p m m').put ≡ p
+  put_of : (p : Result (Unit {0}) Refusal) (m m' : List ℕ) → (written p m m').put ≡ p
   unfolding written
-  put_of Stored m m' = refl
-  put_of (NotStored f) m m' = refl
+  put_of (Ok tt) m m' = refl
+  put_of (Err f) m m' = refl
 
   -- whether there is room depends on the length alone
   put_alike : (w : Width) (a x : ℕ) → length ram' ≡ length ram → (write_of w b ram' a x).put ≡ (write_of w b ram a x).put
-  unfolding write_of write_byte write_word write_long
+  unfolding write_of write_part write_long
   put_alike Byte a x l =
       let e : room 1 b ram' (address a) ≡ room 1 b ram (address a) = rw l in
       put_of (room 1 b ram' (address a)) ram' _ ∙ e ∙ sym (put_of (room 1 b ram (address a)) ram _)
@@ -443,17 +434,17 @@ module _ (b : Board) (rom ram ram' : List ℕ) where
       put_of (both (room 2 b ram' p) (room 2 b ram' q)) ram' _ ∙ e ∙ sym (put_of (both (room 2 b ram p) (room 2 b ram q)) ram _)
 
   module _ (r : Registers) where
-    gave_alike : (g : Got) (give : Give) (index : Index) (a : ℕ) → length ram' ≡ length ram
+    gave_alike : (g : Result ℕ Refusal) (give : Give) (index : Index) (a : ℕ) → length ram' ≡ length ram
         → (gave_to g give index a r b ram').effect ≡ (gave_to g give index a r b ram).effect
     unfolding gave_to
-    gave_alike (Value x) give index a l = rw (put_alike Byte a _ l)
-    gave_alike (NotRead f) give index a l = refl
+    gave_alike (Ok x) give index a l = rw (put_alike Byte a _ l)
+    gave_alike (Err f) give index a l = refl
 
-    carry_alike : (g : Got) (i : Instruction) (next : ℕ) → (effect_of next r b rom ram' i).effect ≡ (effect_of next r b rom ram i).effect
+    carry_alike : (g : Result ℕ Refusal) (i : Instruction) (next : ℕ) → (effect_of next r b rom ram' i).effect ≡ (effect_of next r b rom ram i).effect
         → (carry_of g i next r b rom ram').answer ≡ (carry_of g i next r b rom ram).answer
     unfolding carry_of
-    carry_alike (Value p) i next e = ap (λ (x : Effect). finish_of x.outcome r x.regs p (states_at b.site r i)) e
-    carry_alike (NotRead f) i next e = refl
+    carry_alike (Ok p) i next e = ap (λ (x : Effect). finish_of x.outcome r x.regs p (states_at b.site r i)) e
+    carry_alike (Err f) i next e = refl
 
     -- by where it goes, and by what it does
     alike : (i : Instruction) (n : ℕ) → follow_of r b rom ram' (goes_of i) (next_of r.pc n) ≡ follow_of r b rom ram (goes_of i) (next_of r.pc n)
@@ -496,10 +487,10 @@ module _ (b : Board) (rom ram ram' : List ℕ) where
 
     -- Where a step is done, another working memory that is alike where a read of its list reaches gives the same answer: registers, states, and that it is done.
     -- So the list names no read too few.
-    pub list_suffices : (step_of b rom ram r).answer.outcome ≡ Done → Alike b ram ram' (list_of b rom ram r) → (step_of b rom ram' r).answer ≡ (step_of b rom ram r).answer
+    pub list_suffices : (step_of b rom ram r).answer.outcome ≡ Ok tt → Alike b ram ram' (list_of b rom ram r) → (step_of b rom ram' r).answer ≡ (step_of b rom ram r).answer
     unfolding act_of listed
     list_suffices e s =
         let (i, n, h) = done_at b rom ram r e in
         let l : list_of b rom ram r ≡ made_of r i = at_list h ∙ rw (rw (at_step h) at e) in
-        let k : At (Code i n) b rom ram' r = record { good = rw s.long h.good; within = h.within; is = h.is } in
+        let k : At (Ok (i, n)) b rom ram' r = record { good = rw s.long h.good; within = h.within; is = h.is } in
         rw (at_step h, at_step k) (obey_alike i n (rw l at s))

@@ -1,98 +1,48 @@
 // A step that says what it touched. The loop of a run hands out what its reads and writes noted; here that is unpacked.
 #![tactic(auto)]
 
-ghost use Rattle.std.specs.Prelude.{◌≡◌, ◌∷◌, ◌++◌};
-ghost use Rattle.memory.specs.Told.{made_in};
+ghost use Rattle.std.specs.Prelude.{◌≡◌, ◌≤◌, length};
 ghost use Rattle.memory.specs.Trail.{trail_in};
 ghost use Rattle.step.specs.Step.{after, step_of};
-ghost use Rattle.watch.specs.Watch.{listed, list_of, list_in, Summed, Spares};
+ghost use Rattle.watch.specs.Watch.{listed, list_of, Summed, Spares};
 
 use memory::Board;
-use memory::told::{Access, Made};
-use refusal::Outcome;
+use memory::told::{self, Accesses};
+use refusal::Refusal;
 use registers::Registers;
 use step::StepAnswer;
 
-// The data accesses of a step, in the order made.
-#[derive(Clone, Copy)]
-pub enum Listed {
-    Empty,
-    Solo(Access),
-    Duo(Access, Access),
-    Trio(Access, Access, Access),
-    Quartet(Access, Access, Access, Access),
-}
-
-#[derive(Clone, Copy)]
+// A step, and its data accesses in the order made.
+#[derive(Drop)]
 pub struct Watched {
     pub answer: StepAnswer,
-    pub list: Listed,
-}
-
-// The accesses of one call, and of two one behind the other.
-fn lone(m: Made) -> Listed
-    ensures { list_in result ≡ made_in m }
-{
-    match m {
-        Made::Unmade => Listed::Empty,
-        Made::Alone(x) => Listed::Solo(x),
-        Made::Pair(x, y) => Listed::Duo(x, y),
-    }
-}
-
-fn behind_one(x: Access, m: Made) -> Listed
-    ensures { list_in result ≡ x ∷ made_in m }
-{
-    match m {
-        Made::Unmade => Listed::Solo(x),
-        Made::Alone(y) => Listed::Duo(x, y),
-        Made::Pair(y, z) => Listed::Trio(x, y, z),
-    }
-}
-
-fn behind_two(x: Access, y: Access, m: Made) -> Listed
-    ensures { list_in result ≡ x ∷ y ∷ made_in m }
-{
-    match m {
-        Made::Unmade => Listed::Duo(x, y),
-        Made::Alone(z) => Listed::Trio(x, y, z),
-        Made::Pair(z, t) => Listed::Quartet(x, y, z, t),
-    }
-}
-
-fn joined(m: Made, more: Made) -> Listed
-    ensures { list_in result ≡ made_in m ++ made_in more }
-{
-    match m {
-        Made::Unmade => lone(more),
-        Made::Alone(x) => behind_one(x, more),
-        Made::Pair(x, y) => behind_two(x, y, more),
-    }
+    pub list: Accesses,
 }
 
 // The two calls of a trail. None where the step was refused, though a read before the refusal was noted.
-fn unpacked(o: Outcome, trail: u64) -> Listed
-    ensures { list_in result ≡ listed o (trail_in trail) }
+fn unpacked(o: Result<(), Refusal>, trail: u64) -> Accesses
+    ensures list { result.items ≡ listed o (trail_in trail) }
+    ensures few { length result.items ≤ 4 }
 {
-    match o {
-        Outcome::Done => joined(
-            memory::told::unpack(trail / 134217728),
-            memory::told::unpack(trail % 134217728),
-        ),
-        Outcome::Refused(_) => Listed::Empty,
+    if o.is_err() {
+        return Accesses::new();
     }
+    let mut list = told::unpack(trail / 134217728);
+    let later = told::unpack(trail % 134217728);
+    list.try_extend_from_slice(later.as_slice()).unwrap();
+    list
 }
 
 // A step, and what it touched.
 pub fn single(b: Board, rom: &[u8], ram: &mut [u8], r: Registers) -> Watched
     ensures answer { after result.answer ram.new ≡ step_of b rom.now ram.old r }
-    ensures list { list_in result.list ≡ list_of b rom.now ram.old r }
+    ensures list { result.list.items ≡ list_of b rom.now ram.old r }
+    ensures few { length result.list.items ≤ 4 }
     ensures sum { Summed b rom.now r result }
-    ensures spares { Spares b ram.old ram.new (list_in result.list) }
+    ensures spares { Spares b ram.old ram.new (result.list.items) }
 {
     let t = run::watched(b, rom, ram, r);
-    let a = t.answer;
-    let o = a.outcome;
-    let l = unpacked(o, t.touched);
-    Watched { answer: a, list: l }
+    let answer = t.answer;
+    let list = unpacked(answer.outcome, t.touched);
+    Watched { answer, list }
 }

@@ -2,4 +2,3 @@ pub mod Standing
 pub mod Refusals
 pub mod Parts
 pub mod Ports
-pub mod MirrorAlone

@@ -1,9 +1,9 @@
 -- Refusals in words: document 01's table, "Refusal numbers", with what stands at the place.
-use Rattle.std.specs.Prelude.{ℕ, ◌/◌, ◌%◌, ◌^◌, cond, List, ◌++◌, eqb, length}
+use Rattle.std.specs.Prelude.{ℕ, ◌/◌, ◌%◌, ◌^◌, cond, List, ◌++◌, eqb, length, Result, Ok, Err}
 use Rattle.refusal.specs.declared.Refusal.{Refusal}
 use Rattle.refusal.specs.declared.Refusal.TheVariants.{BadBoard, FetchOutside, UnknownCode, CutShort, ReadOutside, WriteOutside, NoAdjustRow, BadEntry, NotFollowed, NotUpward, NotInstruction, BudgetTooLarge, LentTooShort, DivideFails, LeftOut, TooDeep, BadVersion, BadLength, Unfinished, ReplayEnded, TooLong}
 use Rattle.paths.specs.declared.Flow.{Flow}
-use Rattle.paths.specs.declared.Flow.TheVariants.{Next, Jump, Either, Call, Ends, Stop}
+use Rattle.paths.specs.declared.Flow.TheVariants.{Next, Jump, Either, Call, Ends}
 use Rattle.site.specs.Costs.{no_ports}
 use Rattle.listing.specs.Listing.{flow_at}
 use Rattle.text.specs.Lines.{ascii}
@@ -41,13 +41,13 @@ abbrev pub follow_text : List ℕ → ℕ → List ℕ
 follow_text rom p = ascii "9" ++ (at_place p ++ (stands_at rom p ++ ascii "; calls and jumps by a register or a vector are not followed"))
 
 -- where a way that does not go up leads; ports change nothing there
-abbrev pub back_of : ℕ → Flow → ℕ
-back_of p (Next n s) = n
-back_of p (Jump t s) = t
-back_of p (Either n t s) = t
-back_of p (Call n t s) = n
-back_of p (Ends s) = p
-back_of p (Stop f) = p
+abbrev pub back_of : ℕ → Result Flow Refusal → ℕ
+back_of p (Ok (Next n s)) = n
+back_of p (Ok (Jump t s)) = t
+back_of p (Ok (Either n t s)) = t
+back_of p (Ok (Call n t s)) = n
+back_of p (Ok (Ends s)) = p
+back_of p (Err f) = p
 
 abbrev pub upward_text : ℕ → ℕ → List ℕ
 upward_text p to = ascii "10" ++ (at_place p ++ (ascii "a branch goes back to " ++ (place_of to ++ ascii "; loops have no longest way")))

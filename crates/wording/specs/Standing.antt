@@ -1,9 +1,8 @@
 -- What stands at a place, in words.
-use Rattle.std.specs.Prelude.{ℕ, zero, suc, ◌+◌, false, cond, List, [], ◌++◌, length, get_or, ltb, leb, eqb}
+use Rattle.std.specs.Prelude.{ℕ, zero, suc, ◌+◌, false, cond, List, [], ◌++◌, length, get_or, ltb, leb, eqb, Result, Ok, Err}
+use Rattle.codes.specs.declared.Instruction.{Instruction}
 use Rattle.refusal.specs.Refusals.{number_of, group_of}
 use Rattle.refusal.specs.declared.Refusal.{Refusal}
-use Rattle.codes.specs.declared.Decoded.{Decoded}
-use Rattle.codes.specs.declared.Decoded.TheVariants.{Code, NoCode}
 use Rattle.flow.specs.Targets.{next_of}
 use Rattle.listing.specs.Listing.{decoded_at}
 use Rattle.text.specs.Lines.{ascii}
@@ -27,9 +26,9 @@ not_held_text g = cond (eqb g 0) (ascii "unknown") (ascii "left out, group " ++ 
 unfoldable pub no_code_text : Refusal → List ℕ
 no_code_text f = cond (eqb (number_of f) 4) (ascii "cut short") (not_held_text (group_of f))
 
-abbrev pub found_text : ℕ → Decoded → List ℕ
-found_text p (Code i n) = text_of (next_of p n) i
-found_text p (NoCode f) = no_code_text f
+abbrev pub found_text : ℕ → Result (Instruction × ℕ) Refusal → List ℕ
+found_text p (Ok (i, n)) = text_of (next_of p n) i
+found_text p (Err f) = no_code_text f
 
 unfoldable pub stands_at : List ℕ → ℕ → List ℕ
 stands_at rom p = cond (leb (length rom) p) (ascii "nothing") (found_text p (decoded_at rom p))

@@ -1,65 +1,63 @@
 // Lines of one name and value, and refusals.
 ghost use Rattle.std.specs.Prelude.{◌≡◌};
-ghost use Rattle.text.specs.Lines.{Adds};
+ghost use Rattle.text.specs.Lines.{added};
 ghost use Rattle.wording.specs.Parts.{number_line, place_line, group_line, numbered_text, before_text, refused_text};
 
 use refusal::Refusal;
 use text::Line;
 
-pub fn number(mut l: Line, name: &[u8], n: u64) -> Line
-    ensures { Adds l (number_line name.now n) result }
+pub fn number(l: &mut Line, name: &str, n: u64)
+    ensures { l.new ≡ added l.old (number_line name.now n) }
 {
-    l = text::bytes(l, name);
-    l = text::put(l, b' ');
-    l = text::decimal(l, n);
-    text::put(l, b'\n')
+    l.text(name);
+    l.byte(b' ');
+    l.decimal(n);
+    l.byte(b'\n');
 }
 
-pub fn place(mut l: Line, name: &[u8], p: u32) -> Line
-    ensures { Adds l (place_line name.now p) result }
+pub fn place(l: &mut Line, name: &str, p: u32)
+    ensures { l.new ≡ added l.old (place_line name.now p) }
 {
-    l = text::bytes(l, name);
-    l = text::put(l, b' ');
-    l = text::place(l, p);
-    text::put(l, b'\n')
+    l.text(name);
+    l.byte(b' ');
+    l.place(p);
+    l.byte(b'\n');
 }
 
-fn grouped(l: Line, g: u32) -> Line
-    ensures { Adds l (group_line g) result }
+#[tactic(auto, using(text::proofs::Adding::added_append), unfolding(text::specs::Lines::added, crate::specs::Parts::group_line))]
+fn grouped(l: &mut Line, g: u32)
+    ensures { l.new ≡ added l.old (group_line g) }
 {
-    if g == 0 {
-        l
-    } else {
-        number(l, b"group", g as u64)
+    if g != 0 {
+        number(l, "group", u64::from(g));
     }
 }
 
-fn numbered(mut l: Line, f: Refusal) -> Line
-    ensures { Adds l (numbered_text f) result }
+fn numbered(l: &mut Line, f: Refusal)
+    ensures { l.new ≡ added l.old (numbered_text f) }
 {
-    let n = f.number();
-    let p = f.place();
-    l = number(l, b"refusal", n as u64);
-    l = place(l, b"place", p);
-    l = grouped(l, f.group());
-    text::bytes(l, b"why ")
+    number(l, "refusal", u64::from(f.number()));
+    place(l, "place", f.place());
+    grouped(l, f.group());
+    l.text("why ");
 }
 
 // What stands before a refusal's words; in the plain form its number, place and group have lines of their own.
-pub fn before(l: Line, f: Refusal, plain: bool) -> Line
-    ensures { Adds l (before_text f plain) result }
+#[tactic(auto, using(text::proofs::Adding::added_append), unfolding(text::specs::Lines::added, crate::specs::Parts::before_text))]
+pub fn before(l: &mut Line, f: Refusal, plain: bool)
+    ensures { l.new ≡ added l.old (before_text f plain) }
 {
     if plain {
-        numbered(l, f)
+        numbered(l, f);
     } else {
-        text::bytes(l, b"refused: ")
+        l.text("refused: ");
     }
 }
 
-pub fn refused(mut l: Line, rom: &[u8], f: Refusal, plain: bool) -> Line
-    ensures { Adds l (refused_text rom.now f plain) result }
+pub fn refused(l: &mut Line, rom: &[u8], f: Refusal, plain: bool)
+    ensures { l.new ≡ added l.old (refused_text rom.now f plain) }
 {
-    l = before(l, f, plain);
-    l = crate::refusal(l, rom, f);
-    text::put(l, b'\n')
+    before(l, f, plain);
+    crate::refusal(l, rom, f);
+    l.byte(b'\n');
 }

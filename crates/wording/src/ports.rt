@@ -1,24 +1,23 @@
 // What is wrong with the ports that were asked for.
 ghost use Rattle.std.specs.Prelude.{◌≡◌};
-ghost use Rattle.text.specs.Lines.{Adds};
+ghost use Rattle.text.specs.Lines.{added};
 ghost use Rattle.wording.specs.Ports.{area_fault};
 
 use site::Area;
 use text::Line;
 
 // Which number of --port is wrong; if none is by itself, `otherwise`.
-pub fn area_fault(l: Line, a: Area, otherwise: &[u8]) -> Line
-    ensures { Adds l (area_fault a otherwise.now) result }
+#[tactic(auto, using(text::proofs::Adding::added_append), unfolding(text::specs::Lines::added, crate::specs::Ports::area_fault))]
+pub fn area_fault(l: &mut Line, a: Area, otherwise: &str)
+    ensures { l.new ≡ added l.old (area_fault a otherwise.now) }
 {
     if a.base % 2 == 1 {
-        return text::bytes(l, b"1: BASE of --port is odd");
-    }
-    if a.end % 2 == 1 {
-        return text::bytes(l, b"1: END of --port is odd");
-    }
-    if a.end < a.base {
-        text::bytes(l, b"1: BASE of --port is above END")
+        l.text("1: BASE of --port is odd");
+    } else if a.end % 2 == 1 {
+        l.text("1: END of --port is odd");
+    } else if a.end < a.base {
+        l.text("1: BASE of --port is above END");
     } else {
-        text::bytes(l, otherwise)
+        l.text(otherwise);
     }
 }

@@ -1,28 +1,16 @@
-use mathlib.Core.Path.{ap, ◌∙◌}
-use Prim.Native.Nat.{ℕ}
-use lib.IntN.{ℤ, pos, ◌+ℤ◌}
+use Rattle.std.proofs.Common.{◌∙◌, ap, ℕ, ◌+◌, ◌%◌, ◌^◌, arith, w32, ℤ, pos, ◌+ℤ◌, of_z}
+use Rattle.std.proofs.lemmas.Int.{to_z-of_z}
 use Rattle.registers.specs.Parts.{pc_of}
 use Rattle.flow.specs.Targets.{address_of, target_of}
-use Rattle.flow.proofs.Signed as law
-use native.Mathlib.Omega.{arith}
+use Rattle.flow.proofs.Signed.{address_is}
 use Rattle.flow.proofs.target.Goals as goal
-
-pub overflow_cast-by : goal.overflow_cast-by
-unfolding target_of
-overflow_cast-by c = let d = c.displacement-d in let s = c in law.by_fits s.args.next d.result (omega arith) d.ensures.1
-
-pub overflow_add-sum : goal.overflow_add-sum
-unfolding target_of
-overflow_add-sum c = let d = c.displacement-d in let s = c in law.sum_fits s.args.next d.result (omega arith) d.ensures.1
-
-pub overflow_add-sum-2 : goal.overflow_add-sum-2
-unfolding target_of
-overflow_add-sum-2 c = let d = c.displacement-d in let s = c in law.raised_fits s.args.next d.result (omega arith) d.ensures.1
-
-pub overflow_cast-address : goal.overflow_cast-address
-unfolding target_of
-overflow_cast-address c = let d = c.displacement-d in let s = c in law.read_fits s.args.next d.result (omega arith) d.ensures.1
 
 pub returns : goal.returns
 unfolding target_of
-returns c = let d = c.displacement-d in let s = c in c.pc.ensures ∙ ap (λ (a : ℕ). pc_of a) (law.address_is s.args.next d.result (omega arith) d.ensures.1 ∙ ap (λ (z : ℤ). address_of (pos s.args.next +ℤ z)) d.ensures.0)
+returns c =
+    let d = c.displacement in
+    let s = c in
+    c.pc.ensures
+    ∙ ap (λ (b : ℕ). pc_of ((s.args.next + b) % 2 ^ 32)) (c.cast_unsigned-by.ensures ∙ ap (λ (z : ℤ). of_z w32 z) (to_z-of_z w32 d.result (record { sfits = d.type_inv })))
+    ∙ address_is s.args.next d.result (omega arith) d.ensures.1
+    ∙ ap (λ (z : ℤ). pc_of (address_of (pos s.args.next +ℤ z))) d.ensures.0

@@ -1,4 +1,4 @@
-use Prim.Native.Nat.{◌-◌, ◌%◌, ◌≤◌, ◌<◌}
+use Prim.Native.Nat.{◌-◌, ◌≤◌}
 use mathlib.Core.Path.{◌≡◌}
 use lib.ListN.{drop}
 use Rattle.left.specs.Left.{agrees}
@@ -6,7 +6,4 @@ use Rattle.left.specs.MirrorTable.{patterns_in}
 use Rattle.left.proofs.agrees.Given as goal
 
 abbrev pub invariant-loop-j : goal.invariant-loop-j
-invariant-loop-j l = (l.j ≤ l.n) × (l.n < 256) × (agrees (patterns_in (l.n - l.j) l.a l.b) (drop l.j l.s) ≡ agrees (patterns_in (l.count % 256) l.least l.most) l.s)
-
-abbrev pub decreases-loop-j : goal.decreases-loop-j
-decreases-loop-j l = l.n - l.j
+invariant-loop-j l = (l.j ≤ l.count) × (agrees (patterns_in (l.count - l.j) l.a l.b) (drop l.j l.s) ≡ agrees (patterns_in l.count l.least l.most) l.s)

@@ -19,4 +19,4 @@ pub returns-then-g-eq0 : goal.returns-then-g-eq0
 returns-then-g-eq0 c = no_group _ _ c.if-g-eq0.true
 
 pub returns-else-g-eq0 : goal.returns-else-g-eq0
-returns-else-g-eq0 c = a_group _ _ c.if-g-eq0.false
+returns-else-g-eq0 c = rw c.from.ensures (a_group _ _ c.if-g-eq0.false)

@@ -1,10 +1,10 @@
 use Rattle.moves.specs.MirrorMoves.{kept_of}
 use Rattle.moves.proofs.kept.Goals as goal
 
-pub returns-in-Stored : goal.returns-in-Stored
+pub returns-in-Ok : goal.returns-in-Ok
 unfolding kept_of
-returns-in-Stored c = simp (c.in-Stored.is, c.did.ensures)
+returns-in-Ok c = simp (c.in-Ok.is, c.did.ensures)
 
-pub returns-in-NotStored : goal.returns-in-NotStored
+pub returns-in-Err : goal.returns-in-Err
 unfolding kept_of
-returns-in-NotStored c = simp (c.in-NotStored.is, c.refused.ensures)
+returns-in-Err c = simp (c.in-Err.is, c.refused.ensures)

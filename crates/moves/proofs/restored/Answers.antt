@@ -1,10 +1,10 @@
 use Rattle.moves.specs.Moves.{stored_of}
 use Rattle.moves.proofs.restored.Goals as goal
 
-pub returns-in-Stored : goal.returns-in-Stored
+pub returns-in-Ok : goal.returns-in-Ok
 unfolding stored_of
-returns-in-Stored c = λ pc. simp (c.in-Stored.is, c.did.ensures)
+returns-in-Ok c = λ pc. simp (c.in-Ok.is, c.did.ensures)
 
-pub returns-in-NotStored : goal.returns-in-NotStored
+pub returns-in-Err : goal.returns-in-Err
 unfolding stored_of
-returns-in-NotStored c = λ pc. simp (c.in-NotStored.is, c.refused.ensures, c.put_back.ensures)
+returns-in-Err c = λ pc. simp (c.in-Err.is, c.refused.ensures, c.put_back.ensures)

@@ -3,4 +3,4 @@ use Rattle.operate.proofs.andc.Goals as goal
 
 pub returns : goal.returns
 unfolding ccr_of changed
-returns c = λ er pc. simp (c.condition.ensures, c.and.ensures, c.byte.ensures)
+returns c = λ er pc. simp (c.condition.ensures, c.and.ensures, c.from-2.ensures, c.from.ensures)

@@ -4,4 +4,4 @@ use Rattle.operate.proofs.stc.Goals as goal
 
 pub returns : goal.returns
 unfolding stc_of with_part
-returns c = λ pc. simp (c.put.ensures, c.byte.ensures)
+returns c = λ pc. simp (c.put.ensures, c.from-2.ensures, c.from.ensures)

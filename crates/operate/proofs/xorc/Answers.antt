@@ -3,4 +3,4 @@ use Rattle.operate.proofs.xorc.Goals as goal
 
 pub returns : goal.returns
 unfolding ccr_of changed
-returns c = λ er pc. simp (c.condition.ensures, c.xor.ensures, c.byte.ensures)
+returns c = λ er pc. simp (c.condition.ensures, c.xor.ensures, c.from-2.ensures, c.from.ensures)

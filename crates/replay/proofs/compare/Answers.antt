@@ -8,12 +8,12 @@ returns-then-p-r c = rw (ne_eqb _ _ c.if-p-r.true) (cc)
 
 pub returns-then-p-byte : goal.returns-then-p-byte
 unfolding compared
-returns-then-p-byte c = rw (eq-eqb _ _ c.if-p-r.false, ← c.byte-byte.ensures, ne_eqb _ _ c.if-p-byte.true) (cc)
+returns-then-p-byte c = rw (eq-eqb _ _ c.if-p-r.false, ← c.from-byte.ensures, ne_eqb _ _ c.if-p-byte.true) (cc)
 
 pub returns-then-states-k : goal.returns-then-states-k
 unfolding compared
-returns-then-states-k c = rw (eq-eqb _ _ c.if-p-r.false, ← c.byte-byte.ensures, eq-eqb _ _ c.if-p-byte.false, ne_eqb _ _ c.if-states-k.true) (cc)
+returns-then-states-k c = rw (eq-eqb _ _ c.if-p-r.false, ← c.from-byte.ensures, eq-eqb _ _ c.if-p-byte.false, ne_eqb _ _ c.if-states-k.true) (cc)
 
 pub returns : goal.returns
 unfolding compared
-returns c = rw (eq-eqb _ _ c.if-p-r.false, ← c.byte-byte.ensures, eq-eqb _ _ c.if-p-byte.false, eq-eqb _ _ c.if-states-k.false) c.step_on.ensures
+returns c = rw (eq-eqb _ _ c.if-p-r.false, ← c.from-byte.ensures, eq-eqb _ _ c.if-p-byte.false, eq-eqb _ _ c.if-states-k.false) c.step_on.ensures

@@ -5,14 +5,14 @@ use Rattle.replay.specs.Replay.{moment}
 use Rattle.replay.proofs.Bytes.{told_stays, goes_on, no_more}
 use Rattle.replay.proofs.one_by_one.Goals as goal
 
-pub loop-i-init : goal.loop-i-init
-loop-i-init c = (search rules, search rules, refl)
+pub loop-x-init : goal.loop-x-init
+loop-x-init c = (search rules, refl)
 
-pub loop-i-preserved : goal.loop-i-preserved
-loop-i-preserved c = let a = c.args in let s = c.loop-i in (search rules, search rules, goes_on a.b a.rom.now (moment s.q s.ram) a.bytes.now s.i (search rules) _ c.byte_taken-q.ensures ∙ s.invariant.2)
+pub loop-x-preserved : goal.loop-x-preserved
+loop-x-preserved c = let a = c.args in let s = c.loop-x in (search rules, goes_on a.b a.rom.now (moment s.q s.ram) a.bytes.now s.x-index (search rules) _ c.byte_taken-q.ensures ∙ s.invariant.1)
 
-pub returns-after-loop-i : goal.returns-after-loop-i
-returns-after-loop-i c = let a = c.args in let s = c.loop-i in sym (no_more a.b a.rom.now (moment s.q s.ram) a.bytes.now s.i (search rules)) ∙ s.invariant.2
+pub returns-after-loop-x : goal.returns-after-loop-x
+returns-after-loop-x c = let a = c.args in let s = c.loop-x in sym (no_more a.b a.rom.now (moment s.q s.ram) a.bytes.now s.x-index (search rules)) ∙ s.invariant.1
 
 pub returns-then-over : goal.returns-then-over
-returns-then-over c = let a = c.args in let s = c.loop-i in sym (told_stays a.b a.rom.now (moment s.q s.ram) (drop s.i a.bytes.now) (sym c.over.ensures ∙ c.if-over.true)) ∙ s.invariant.2
+returns-then-over c = let a = c.args in let s = c.loop-x in sym (told_stays a.b a.rom.now (moment s.q s.ram) (drop s.x-index a.bytes.now) (sym c.over.ensures ∙ c.if-over.true)) ∙ s.invariant.1

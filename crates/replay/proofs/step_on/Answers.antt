@@ -1,10 +1,10 @@
 use Rattle.replay.specs.Replay.{taken, went}
 use Rattle.replay.proofs.step_on.Goals as goal
 
-pub returns-in-Done : goal.returns-in-Done
+pub returns-in-Ok : goal.returns-in-Ok
 unfolding taken went
-returns-in-Done c = rw (← c.single-a.ensures, c.in-Done.is) (cc)
+returns-in-Ok c = rw (← c.single-a.ensures, c.in-Ok.is) (cc)
 
-pub returns-in-Refused : goal.returns-in-Refused
+pub returns-in-Err : goal.returns-in-Err
 unfolding taken went
-returns-in-Refused c = rw (← c.single-a.ensures, c.in-Refused.is)
+returns-in-Err c = rw (← c.single-a.ensures, c.in-Err.is)

@@ -1,14 +1,15 @@
+use Rattle.std.specs.Prelude.{Result}
 use mathlib.Core.Path.{sym, ap, ◌∙◌}
-use Rattle.refusal.specs.declared.Outcome.{Outcome}
+use Rattle.refusal.specs.declared.Refusal.{Refusal}
 use Rattle.routine.specs.MirrorTurn.{turned_by}
 use Rattle.routine.proofs.by_outcome.Goals as goal
 
-pub returns-in-Done : goal.returns-in-Done
+pub returns-in-Ok : goal.returns-in-Ok
 unfolding turned_by
-returns-in-Done c = let a = c.args in
-    c.follow.ensures ∙ ap (λ (o : Outcome). turned_by o a.g a.next a.r a.kept a.count a.a) (sym c.in-Done.is)
+returns-in-Ok c = let a = c.args in
+    c.follow.ensures ∙ ap (λ (o : Result (Unit {0}) Refusal). turned_by o a.g a.next a.r a.kept a.a) (sym c.in-Ok.is)
 
-pub returns-in-Refused : goal.returns-in-Refused
+pub returns-in-Err : goal.returns-in-Err
 unfolding turned_by
-returns-in-Refused c = let a = c.args in
-    c.stay.ensures ∙ ap (λ (o : Outcome). turned_by o a.g a.next a.r a.kept a.count a.a) (sym c.in-Refused.is)
+returns-in-Err c = let a = c.args in
+    c.stay.ensures ∙ ap (λ (o : Result (Unit {0}) Refusal). turned_by o a.g a.next a.r a.kept a.a) (sym c.in-Err.is)

@@ -1,10 +1,10 @@
 use Rattle.routine.specs.MirrorTurn.{seen_in}
 use Rattle.routine.proofs.standing.Goals as goal
 
-pub returns-in-Code : goal.returns-in-Code
+pub returns-in-Ok : goal.returns-in-Ok
 unfolding seen_in
-returns-in-Code c = rw c.in-Code.is (rw (c.goes.ensures, c.next.ensures))
+returns-in-Ok c = rw c.in-Ok.is (rw (c.goes.ensures, c.next.ensures))
 
-pub returns-in-NoCode : goal.returns-in-NoCode
+pub returns-in-Err : goal.returns-in-Err
 unfolding seen_in
-returns-in-NoCode c = rw c.in-NoCode.is
+returns-in-Err c = rw c.in-Err.is

@@ -1,4 +1,4 @@
 use Rattle.run.proofs.ended.Goals as goal
 
 pub returns : goal.returns
-returns c = simp c.outcome-o.ensures
+returns c = simp c.outcome.ensures

@@ -1,3 +1,4 @@
+use Rattle.std.specs.Prelude.{Ok}
 use Prim.Native.Nat.{ℕ, ◌-◌, ◌/◌, ◌%◌}
 use mathlib.Core.Path.{◌≡◌, refl, sym, ◌∙◌, ap}
 use mathlib.Core.List.{List}
@@ -5,7 +6,6 @@ use native.Mathlib.Nat.{sub-zero}
 use native.Mathlib.Omega.{arith}
 use lib.ListN.{length}
 use borrow.Author.Rules.{rules}
-use Rattle.refusal.specs.declared.Outcome.TheVariants.{Done}
 use Rattle.registers.specs.Lent.{lent}
 use Rattle.memory.specs.Board.{good_board}
 use Rattle.entry.specs.Entry.{reg_short, reg_long, imm_byte, imm_word, imm_long, branch_near, branch_far, taken_in, given_in, by_kind}
@@ -61,7 +61,7 @@ turned c =
     ]
 
 -- and it noted what the instruction at PC touches
-trailed : (c : Met) → c.match-e-rem32.t.outcome ≡ Done → (
+trailed : (c : Met) → c.match-e-rem32.t.outcome ≡ Ok tt → (
     let a = c.args in
     let s = c.loop-pc in
     c.match-e-rem32.trail ≡ trail_at a.rom.now (lent s.er s.pc s.f))
@@ -126,8 +126,8 @@ loop-pc-preserved c = let m = c in
     let s = m.loop-pc in
     let r = lent s.er s.pc s.f in
     let t = m.match-e-rem32.t in
-    let n = answered (lent m.match-e-rem32.er c.pc-pc.result t.condition) t.states Done in
-    let e : after n m.match-e-rem32.ram ≡ fetch_of r a.b a.rom.now s.ram = rw c.pc-pc.ensures (turn_done s.er m.match-e-rem32.er s.pc s.f t a.b a.rom.now s.ram m.match-e-rem32.ram (turned (c.before.before.before.before.before)) c.in-Done.is) in (
+    let n = answered (lent m.match-e-rem32.er c.pc-pc.result t.condition) t.states (Ok tt) in
+    let e : after n m.match-e-rem32.ram ≡ fetch_of r a.b a.rom.now s.ram = rw c.pc-pc.ensures (turn_done s.er m.match-e-rem32.er s.pc s.f t a.b a.rom.now s.ram m.match-e-rem32.ram (turned (c.before.before.before.before.before)) c.in-Ok.is) in (
       search (rules, m.lines-1.given, s.invariant.0),
       length_kept a.b a.rom.now a.stop a.records.now s.ram r s.steps s.states s.invariant.5 n m.match-e-rem32.ram e refl ∙ s.invariant.1,
       omega (arith, s.invariant.2, m.if-steps-budget.false),
@@ -142,7 +142,7 @@ loop-pc-preserved c = let m = c in
             held = s.ram;
             led = ap (λ (x : After). x.answer.regs) (step_is a.b a.rom.now a.stop a.records.now s.ram r s.steps s.states s.invariant.5 n m.match-e-rem32.ram e);
             only = λ h. s.invariant.7 (omega (arith, h));
-            tells = trailed (c.before.before.before.before.before) c.in-Done.is;
+            tells = trailed (c.before.before.before.before.before) c.in-Ok.is;
           },
     )
 
@@ -167,21 +167,21 @@ returns-then-rom-at c = let a = c.args in
     let r = lent s.er s.pc s.f in
     record { did = sym (refused a.b a.rom.now a.stop a.records.now s.ram r s.steps s.states s.invariant.5 _ _ (outside r a.b a.rom.now s.ram c.if-rom-at.true) a.budget c.if-pc-stop.false s.invariant.2 c.if-steps-budget.false (sym c.strays.ensures ∙ c.if-strays.false) _ refl) ∙ s.invariant.4; told = λ h n. absurd (not_halted h) }
 
-pub shape_of-lines-in-Refused : goal.shape_of-lines-in-Refused
-shape_of-lines-in-Refused c = search (rules, c.lines-1.given, c.loop-pc.invariant.0)
+pub shape_of-lines-in-Err : goal.shape_of-lines-in-Err
+shape_of-lines-in-Err c = search (rules, c.lines-1.given, c.loop-pc.invariant.0)
 
-pub shape_of-ram-in-Refused : goal.shape_of-ram-in-Refused
-shape_of-ram-in-Refused c = let m = c in
+pub shape_of-ram-in-Err : goal.shape_of-ram-in-Err
+shape_of-ram-in-Err c = let m = c in
     let a = m.args in
     let s = m.loop-pc in
-    ap (λ (l : List ℕ). length l) (same_memory s.er m.match-e-rem32.er s.pc s.f m.match-e-rem32.t a.b a.rom.now s.ram m.match-e-rem32.ram (turned (c.before.before)) _ c.in-Refused.is) ∙ s.invariant.1
+    ap (λ (l : List ℕ). length l) (same_memory s.er m.match-e-rem32.er s.pc s.f m.match-e-rem32.t a.b a.rom.now s.ram m.match-e-rem32.ram (turned (c.before.before)) _ c.in-Err.is) ∙ s.invariant.1
 
-pub returns-in-Refused : goal.returns-in-Refused
-returns-in-Refused c = let m = c in
+pub returns-in-Err : goal.returns-in-Err
+returns-in-Err c = let m = c in
     let a = m.args in
     let s = m.loop-pc in
     let r = lent s.er s.pc s.f in
-    let x = c.in-Refused.is in
+    let x = c.in-Err.is in
     let e = turn_refused s.er m.match-e-rem32.er s.pc s.f m.match-e-rem32.t a.b a.rom.now s.ram m.match-e-rem32.ram (turned (c.before.before)) _ x in record {
       did = rw (same_registers s.er m.match-e-rem32.er s.pc s.f m.match-e-rem32.t a.b a.rom.now s.ram m.match-e-rem32.ram (turned (c.before.before)) _ x)
           (sym (refused a.b a.rom.now a.stop a.records.now s.ram r s.steps s.states s.invariant.5 _ _ e a.budget m.if-pc-stop.false s.invariant.2 m.if-steps-budget.false (sym m.strays.ensures ∙ m.if-strays.false) _ refl) ∙ s.invariant.4);

@@ -1,4 +1,4 @@
 use Rattle.run.proofs.single.Goals as goal
 
 pub returns : goal.returns
-returns c = c.watched-t.ensures.did
+returns c = c.watched.ensures.did

@@ -1,10 +1,10 @@
 use Rattle.turns.specs.MirrorTurn.{ended_of}
 use Rattle.turns.proofs.ended.Goals as goal
 
-pub returns-in-Done : goal.returns-in-Done
+pub returns-in-Ok : goal.returns-in-Ok
 unfolding ended_of
-returns-in-Done c = simp (c.in-Done.is, c.done.ensures)
+returns-in-Ok c = simp (c.in-Ok.is, c.done.ensures)
 
-pub returns-in-Refused : goal.returns-in-Refused
+pub returns-in-Err : goal.returns-in-Err
 unfolding ended_of
-returns-in-Refused c = simp (c.in-Refused.is, c.refuse.ensures)
+returns-in-Err c = simp (c.in-Err.is, c.refuse.ensures)

@@ -6,4 +6,5 @@ pub returns : goal.returns
 returns c = let a = c.args in
     let w = c.watched-t in
     let s = w.ensures.did in
-    let l = told_list a.b a.rom.now a.ram.now a.r w.result.answer _ s w.result.touched c.unpacked-l.result w.ensures.told c.unpacked-l.ensures in record { answer = s; list = l; sum = told_sum a.b a.rom.now a.ram.now a.r (record { answer = w.result.answer; list = c.unpacked-l.result }) _ s l; spares = told_spares a.b a.rom.now a.ram.now a.r w.result.answer _ s _ l }
+    let u = c.unpacked-list in
+    let l = told_list a.b a.rom.now a.ram.now a.r w.result.answer _ s w.result.touched u.result.items w.ensures.told u.ensures.list in record { answer = s; list = l; few = u.ensures.few; sum = told_sum a.b a.rom.now a.ram.now a.r (record { answer = w.result.answer; list = u.result }) _ s l; spares = told_spares a.b a.rom.now a.ram.now a.r w.result.answer _ s _ l }

@@ -8,6 +8,6 @@ pub returns-then-at-rom : goal.returns-then-at-rom
 unfolding decoded_at
 returns-then-at-rom c = c.decode_at.ensures.mirror ∙ part_decoded c.args.rom.now c.args.p
 
-pub returns : goal.returns
+pub returns-else-at-rom : goal.returns-else-at-rom
 unfolding decoded_at
-returns c = rw (drop_of_length-le _ c.if-at-rom.false) c.decode_at-2.ensures.mirror
+returns-else-at-rom c = rw (drop_of_length-le _ c.if-at-rom.false) c.decode_at-else-at-rom.ensures.mirror

@@ -1,10 +1,10 @@
 use Rattle.arith.specs.MirrorRows.{by_row}
 use Rattle.arith.proofs.decimal.by_row.Goals as goal
 
-pub returns-then-row-up : goal.returns-then-row-up
+pub returns-then-upper-up : goal.returns-then-upper-up
 unfolding by_row
-returns-then-row-up c = rw c.if-row-up.true
+returns-then-upper-up c = rw c.if-upper-up.true
 
-pub returns-else-row-up : goal.returns-else-row-up
+pub returns-else-upper-up : goal.returns-else-upper-up
 unfolding by_row
-returns-else-row-up c = rw c.if-row-up.false
+returns-else-upper-up c = rw c.if-upper-up.false

@@ -2,4 +2,6 @@ use Rattle.text.proofs.Adding.{more}
 use Rattle.asking.proofs.faults.missing.Goals as goal
 
 pub returns : goal.returns
-returns c = more c.error-a.ensures (more c.bytes-b.ensures (more c.bytes-c.ensures (more c.bytes-d.ensures c.put.ensures)))
+returns c =
+    more _ _ _ _ _ (rw c.error.ensures at c.text.ensures)
+    (more _ _ _ _ _ c.text-2.ensures (more _ _ _ _ _ c.text-3.ensures (more _ _ _ _ _ c.text-4.ensures c.byte.ensures)))

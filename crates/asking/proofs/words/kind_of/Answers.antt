@@ -1,46 +1,35 @@
+-- the longer words
+use Rattle.std.proofs.Common.{◌≡◌, arith}
+use borrow.Author.Rules.{rules}
+use Rattle.std.proofs.lemmas.Slice.Eq.{text_from_reads}
+use Rattle.text.specs.Lines.{ascii}
 use Rattle.asking.specs.Words.{kind_of}
 use Rattle.asking.proofs.words.kind_of.Goals as goal
 
-pub returns-then-same : goal.returns-then-same
+pub returns-in-45 : goal.returns-in-45
 unfolding kind_of
-returns-then-same c = rw (← c.same.ensures, c.if-same.true)
+returns-in-45 c = let e : c.args.s.now ≡ ascii "--plain" = text_from_reads _ _ (omega arith) (search rules) in rw e
 
-pub returns-then-same-2 : goal.returns-then-same-2
+pub returns-in-45-3 : goal.returns-in-45-3
 unfolding kind_of
-returns-then-same-2 c = rw (← c.same.ensures, c.if-same.false, ← c.same-2.ensures, c.if-same-2.true)
+returns-in-45-3 c = let e : c.args.s.now ≡ ascii "--port" = text_from_reads _ _ (omega arith) (search rules) in rw e
 
-pub returns-then-same-3 : goal.returns-then-same-3
+pub returns-in-45-4 : goal.returns-in-45-4
 unfolding kind_of
-returns-then-same-3 c = rw (← c.same.ensures, c.if-same.false, ← c.same-2.ensures, c.if-same-2.false, ← c.same-3.ensures, c.if-same-3.true)
+returns-in-45-4 c = let e : c.args.s.now ≡ ascii "--budget" = text_from_reads _ _ (omega arith) (search rules) in rw e
 
-pub returns-then-same-4 : goal.returns-then-same-4
+pub returns-in-45-5 : goal.returns-in-45-5
 unfolding kind_of
-returns-then-same-4 c = rw (← c.same.ensures, c.if-same.false, ← c.same-2.ensures, c.if-same-2.false, ← c.same-3.ensures, c.if-same-3.false, ← c.same-4.ensures, c.if-same-4.true)
+returns-in-45-5 c = let e : c.args.s.now ≡ ascii "--stop" = text_from_reads _ _ (omega arith) (search rules) in rw e
 
-pub returns-then-same-5 : goal.returns-then-same-5
+pub returns-in-45-7 : goal.returns-in-45-7
 unfolding kind_of
-returns-then-same-5 c = rw (← c.same.ensures, c.if-same.false, ← c.same-2.ensures, c.if-same-2.false, ← c.same-3.ensures, c.if-same-3.false, ← c.same-4.ensures, c.if-same-4.false, ← c.same-5.ensures, c.if-same-5.true)
+returns-in-45-7 c = let e : c.args.s.now ≡ ascii "--routine" = text_from_reads _ _ (omega arith) (search rules) in rw e
 
-pub returns-then-same-6 : goal.returns-then-same-6
+pub returns-in-45-8 : goal.returns-in-45-8
 unfolding kind_of
-returns-then-same-6 c = rw (← c.same.ensures, c.if-same.false, ← c.same-2.ensures, c.if-same-2.false, ← c.same-3.ensures, c.if-same-3.false, ← c.same-4.ensures, c.if-same-4.false, ← c.same-5.ensures, c.if-same-5.false, ← c.same-6.ensures, c.if-same-6.true)
+returns-in-45-8 c = let e : c.args.s.now ≡ ascii "--deep" = text_from_reads _ _ (omega arith) (search rules) in rw e
 
-pub returns-then-same-7 : goal.returns-then-same-7
+pub returns-in-45-9 : goal.returns-in-45-9
 unfolding kind_of
-returns-then-same-7 c = rw (← c.same.ensures, c.if-same.false, ← c.same-2.ensures, c.if-same-2.false, ← c.same-3.ensures, c.if-same-3.false, ← c.same-4.ensures, c.if-same-4.false, ← c.same-5.ensures, c.if-same-5.false, ← c.same-6.ensures, c.if-same-6.false, ← c.same-7.ensures, c.if-same-7.true)
-
-pub returns-then-same-8 : goal.returns-then-same-8
-unfolding kind_of
-returns-then-same-8 c = rw (← c.same.ensures, c.if-same.false, ← c.same-2.ensures, c.if-same-2.false, ← c.same-3.ensures, c.if-same-3.false, ← c.same-4.ensures, c.if-same-4.false, ← c.same-5.ensures, c.if-same-5.false, ← c.same-6.ensures, c.if-same-6.false, ← c.same-7.ensures, c.if-same-7.false, ← c.same-8.ensures, c.if-same-8.true)
-
-pub returns-then-same-9 : goal.returns-then-same-9
-unfolding kind_of
-returns-then-same-9 c = rw (← c.same.ensures, c.if-same.false, ← c.same-2.ensures, c.if-same-2.false, ← c.same-3.ensures, c.if-same-3.false, ← c.same-4.ensures, c.if-same-4.false, ← c.same-5.ensures, c.if-same-5.false, ← c.same-6.ensures, c.if-same-6.false, ← c.same-7.ensures, c.if-same-7.false, ← c.same-8.ensures, c.if-same-8.false, ← c.same-9.ensures, c.if-same-9.true)
-
-pub returns-then-two_dashes : goal.returns-then-two_dashes
-unfolding kind_of
-returns-then-two_dashes c = rw (← c.same.ensures, c.if-same.false, ← c.same-2.ensures, c.if-same-2.false, ← c.same-3.ensures, c.if-same-3.false, ← c.same-4.ensures, c.if-same-4.false, ← c.same-5.ensures, c.if-same-5.false, ← c.same-6.ensures, c.if-same-6.false, ← c.same-7.ensures, c.if-same-7.false, ← c.same-8.ensures, c.if-same-8.false, ← c.same-9.ensures, c.if-same-9.false, ← c.two_dashes.ensures, c.if-two_dashes.true)
-
-pub returns-else-two_dashes : goal.returns-else-two_dashes
-unfolding kind_of
-returns-else-two_dashes c = rw (← c.same.ensures, c.if-same.false, ← c.same-2.ensures, c.if-same-2.false, ← c.same-3.ensures, c.if-same-3.false, ← c.same-4.ensures, c.if-same-4.false, ← c.same-5.ensures, c.if-same-5.false, ← c.same-6.ensures, c.if-same-6.false, ← c.same-7.ensures, c.if-same-7.false, ← c.same-8.ensures, c.if-same-8.false, ← c.same-9.ensures, c.if-same-9.false, ← c.two_dashes.ensures, c.if-two_dashes.false)
+returns-in-45-9 c = let e : c.args.s.now ≡ ascii "--trace" = text_from_reads _ _ (omega arith) (search rules) in rw e

@@ -1,30 +1,15 @@
+-- the longer words
+use Rattle.std.proofs.Common.{◌≡◌, arith}
+use borrow.Author.Rules.{rules}
+use Rattle.std.proofs.lemmas.Slice.Eq.{text_from_reads}
+use Rattle.text.specs.Lines.{ascii}
 use Rattle.asking.specs.Words.{use_of}
 use Rattle.asking.proofs.words.use_of.Goals as goal
 
-pub returns-then-same : goal.returns-then-same
+pub returns-in-figure : goal.returns-in-figure
 unfolding use_of
-returns-then-same c = rw (← c.same.ensures, c.if-same.true)
+returns-in-figure c = let e : c.args.s.now ≡ ascii "figure" = text_from_reads _ _ (omega arith) (search rules) in rw e
 
-pub returns-then-same-2 : goal.returns-then-same-2
+pub returns-in-replay : goal.returns-in-replay
 unfolding use_of
-returns-then-same-2 c = rw (← c.same.ensures, c.if-same.false, ← c.same-2.ensures, c.if-same-2.true)
-
-pub returns-then-same-3 : goal.returns-then-same-3
-unfolding use_of
-returns-then-same-3 c = rw (← c.same.ensures, c.if-same.false, ← c.same-2.ensures, c.if-same-2.false, ← c.same-3.ensures, c.if-same-3.true)
-
-pub returns-then-same-4 : goal.returns-then-same-4
-unfolding use_of
-returns-then-same-4 c = rw (← c.same.ensures, c.if-same.false, ← c.same-2.ensures, c.if-same-2.false, ← c.same-3.ensures, c.if-same-3.false, ← c.same-4.ensures, c.if-same-4.true)
-
-pub returns-then-same-5 : goal.returns-then-same-5
-unfolding use_of
-returns-then-same-5 c = rw (← c.same.ensures, c.if-same.false, ← c.same-2.ensures, c.if-same-2.false, ← c.same-3.ensures, c.if-same-3.false, ← c.same-4.ensures, c.if-same-4.false, ← c.same-5.ensures, c.if-same-5.true)
-
-pub returns-then-same-6 : goal.returns-then-same-6
-unfolding use_of
-returns-then-same-6 c = rw (← c.same.ensures, c.if-same.false, ← c.same-2.ensures, c.if-same-2.false, ← c.same-3.ensures, c.if-same-3.false, ← c.same-4.ensures, c.if-same-4.false, ← c.same-5.ensures, c.if-same-5.false, ← c.same-6.ensures, c.if-same-6.true)
-
-pub returns-else-same-6 : goal.returns-else-same-6
-unfolding use_of
-returns-else-same-6 c = rw (← c.same.ensures, c.if-same.false, ← c.same-2.ensures, c.if-same-2.false, ← c.same-3.ensures, c.if-same-3.false, ← c.same-4.ensures, c.if-same-4.false, ← c.same-5.ensures, c.if-same-5.false, ← c.same-6.ensures, c.if-same-6.false)
+returns-in-replay c = let e : c.args.s.now ≡ ascii "replay" = text_from_reads _ _ (omega arith) (search rules) in rw e

@@ -1,6 +1,6 @@
-use mathlib.Core.List.{[], ◌∷◌}
-use Rattle.host.proofs.Told.{stored_told}
+use Rattle.host.proofs.Told.{in_parts}
 use Rattle.host.proofs.answers.told.Goals as goal
 
-pub returns : goal.returns
-returns c = let s = c in stored_told (s.args.n ∷ s.args.p ∷ s.args.g ∷ s.args.x ∷ []) s.args.answer.now s.requires c.put_four.ensures
+pub returns-clause-answer : goal.returns-clause-answer
+returns-clause-answer g c =
+    in_parts c.args.more.now c.args.answer.now c.copy_from_slice.ensures.after c.of.ensures c.of-2.ensures c.of-3.ensures c.copy_from_slice-2.ensures.after

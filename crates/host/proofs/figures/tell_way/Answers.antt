@@ -1,16 +1,16 @@
-use Rattle.layout.specs.Lent.{overwrite}
-use Rattle.host.specs.Answers.{tell}
+use Rattle.std.specs.Prelude.{Ok, Option}
+use Prim.Native.Nat.{ℕ}
+use mathlib.Core.List.{[], ◌∷◌}
+use mathlib.Core.Path.{ap, ◌∙◌}
+use Rattle.host.specs.Answers.{completed, refuse, tell}
 use Rattle.host.specs.Figures.{way_told}
+use Rattle.host.proofs.Told.{headed_told, refused_told}
+use Rattle.host.proofs.Numbered.{way_numbers}
 use Rattle.host.proofs.figures.tell_way.Goals as goal
 
-pub returns-in-On : goal.returns-in-On
-unfolding way_told tell overwrite
-returns-in-On c = rw c.in-On.is c.told_wide.ensures
+pub returns-in-Ok : goal.returns-in-Ok
+returns-in-Ok c = rw c.in-Ok.is (headed_told (c.place.result ∷ []) c.args.answer.now c.told.ensures.number c.told.ensures.answer ∙ ap (λ (x : ℕ). tell (completed (x ∷ [])) c.args.answer.now) c.place.ensures ∙ way_numbers c.in-Ok.on c.args.answer.now)
 
-pub returns-in-Home : goal.returns-in-Home
-unfolding way_told tell overwrite
-returns-in-Home c = rw c.in-Home.is c.told_wide-in-Home.ensures
-
-pub returns-in-NoWay : goal.returns-in-NoWay
-unfolding way_told tell overwrite
-returns-in-NoWay c = rw c.in-NoWay.is c.refused_wide.ensures
+pub returns-in-Err : goal.returns-in-Err
+unfolding way_told refuse
+returns-in-Err c = rw c.in-Err.is (refused_told _ _ c.told-in-Err.ensures.number c.told-in-Err.ensures.answer _ c.from.ensures)

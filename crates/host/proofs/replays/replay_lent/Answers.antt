@@ -5,4 +5,4 @@ use Rattle.host.proofs.replays.replay_lent.Goals as goal
 
 pub returns : goal.returns
 unfolding replay_left replay_told
-returns c = rw (← c.board_in-b.ensures, ← c.registers_in.ensures, ← c.replay-q.ensures) (beside _ c.tell_replay.ensures)
+returns c = rw (← c.board_in.ensures, ← c.replay-q.ensures) (beside _ c.tell_replay.ensures)

@@ -1,15 +1,16 @@
-use mathlib.Core.Path.{◌∙◌}
-use Rattle.host.specs.Replays.{replay_answer}
+use Prim.Native.Nat.{ℕ}
+use mathlib.Core.List.{List, [], ◌∷◌}
+use mathlib.Core.Path.{ap, ◌∙◌}
+use Rattle.host.specs.Answers.{tell}
+use Rattle.host.specs.MirrorAnswers.{headed}
+use Rattle.host.specs.MirrorReplays.{numbered_report}
+use Rattle.host.specs.declared.answers.Head.{Head}
+use Rattle.host.proofs.Told.{headed_told}
+use Rattle.host.proofs.Numbered.{report_numbers}
 use Rattle.host.proofs.replays.tell_report.Goals as goal
 
-pub returns-in-Agreed : goal.returns-in-Agreed
-unfolding replay_answer
-returns-in-Agreed c = rw c.in-Agreed.is c.told_seven.ensures
-
-pub returns-in-Differs : goal.returns-in-Differs
-unfolding replay_answer
-returns-in-Differs c = rw c.in-Differs.is (c.told_seven-in-Differs.ensures ∙ rw c.number.ensures)
-
-pub returns-in-Halted : goal.returns-in-Halted
-unfolding replay_answer
-returns-in-Halted c = rw c.in-Halted.is (c.told_seven-in-Halted.ensures ∙ rw (c.group.ensures, c.place.ensures, c.number-in-Halted.ensures))
+pub returns : goal.returns
+returns c =
+    headed_told (c.args.steps ∷ c.args.states ∷ c.numbered-report.result.1 ∷ c.numbered-report.result.2 ∷ []) c.args.answer.now c.told.ensures.number c.told.ensures.answer
+    ∙ ap (λ (k : Head × ℕ × ℕ). tell (headed (λ (x : ℕ). x) k.0 (c.args.steps ∷ c.args.states ∷ k.1 ∷ k.2 ∷ [])) c.args.answer.now) c.numbered-report.ensures
+    ∙ ap (λ (l : List ℕ). tell l c.args.answer.now) (report_numbers c.args.t c.args.steps c.args.states)

@@ -5,4 +5,4 @@ use Rattle.host.proofs.routines.routine_lent.Goals as goal
 
 pub returns : goal.returns
 unfolding routine_left routine_kept
-returns c = rw (← c.board_in-b.ensures, ← c.registers_in.ensures, ← c.routine-q.ensures) (beside _ c.tell_routine.ensures)
+returns c = rw (← c.board_in.ensures, ← c.routine-q.ensures) (beside _ c.tell_routine.ensures)

@@ -1,27 +1,18 @@
-use mathlib.Core.Path.{◌∙◌}
-use Rattle.host.specs.Routines.{routine_told}
+use Prim.Native.Nat.{ℕ}
+use mathlib.Core.List.{List}
+use mathlib.Core.Path.{ap, ◌∙◌}
+use Rattle.layout.specs.Lent.{eight_of}
+use Rattle.host.specs.Answers.{tell}
+use Rattle.host.specs.Routines.{kept_numbers}
+use Rattle.host.specs.MirrorAnswers.{headed}
+use Rattle.host.specs.declared.answers.Head.{Head}
+use Rattle.host.proofs.Told.{headed_told}
+use Rattle.host.proofs.Numbered.{routine_numbers}
 use Rattle.host.proofs.routines.tell_why.Goals as goal
 
-pub returns-in-AtStop : goal.returns-in-AtStop
-unfolding routine_told
-returns-in-AtStop c = rw c.in-AtStop.is c.told_kept.ensures
-
-pub returns-in-Spent : goal.returns-in-Spent
-unfolding routine_told
-returns-in-Spent c = rw c.in-Spent.is c.told_kept-in-Spent.ensures
-
-pub returns-in-Halted : goal.returns-in-Halted
-unfolding routine_told
-returns-in-Halted c = rw c.in-Halted.is (c.told_kept-in-Halted.ensures ∙ rw (c.group.ensures, c.place.ensures, c.number.ensures))
-
-pub returns-in-Returned : goal.returns-in-Returned
-unfolding routine_told
-returns-in-Returned c = rw c.in-Returned.is c.told_kept-in-Returned.ensures
-
-pub returns-in-Ninth : goal.returns-in-Ninth
-unfolding routine_told
-returns-in-Ninth c = rw c.in-Ninth.is c.told_kept-in-Ninth.ensures
-
-pub returns-in-Elsewhere : goal.returns-in-Elsewhere
-unfolding routine_told
-returns-in-Elsewhere c = rw c.in-Elsewhere.is c.told_kept-in-Elsewhere.ensures
+pub returns : goal.returns
+unfolding eight_of
+returns c =
+    headed_told (kept_numbers c.args.q c.numbered-ending.result.1) c.args.answer.now c.told.ensures.number c.told.ensures.answer
+    ∙ ap (λ (k : Head × ℕ). tell (headed (λ (x : ℕ). x) k.0 (kept_numbers c.args.q k.1)) c.args.answer.now) c.numbered-ending.ensures
+    ∙ ap (λ (l : List ℕ). tell l c.args.answer.now) (routine_numbers c.args.q.why c.args.q)

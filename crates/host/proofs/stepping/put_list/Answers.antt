@@ -1,17 +1,19 @@
-use Rattle.host.proofs.Listed.{none_told, one_told, two_told, three_told, four_told}
+use Prim.Native.Nat.{◌<◌}
+use mathlib.Core.Path.{◌≡◌, ◌∙◌}
+use native.Mathlib.Omega.{arith}
+use Rattle.host.proofs.Listed.{one_told}
 use Rattle.host.proofs.stepping.put_list.Goals as goal
 
-pub returns-in-Empty : goal.returns-in-Empty
-returns-in-Empty c = none_told c.args.answer.now c.in-Empty.is c.no_access-no.ensures c.put_four.ensures
+pub loop-i-init : goal.loop-i-init
+loop-i-init c = rw c.put.ensures
 
-pub returns-in-Solo : goal.returns-in-Solo
-returns-in-Solo c = one_told c.args.answer.now c.in-Solo.is c.no_access-no.ensures c.put_four-in-Solo.ensures
+pub loop-i-preserved : goal.loop-i-preserved
+loop-i-preserved c =
+    let h : c.loop-i.i < 4 = omega arith in
+    rw (c.put_access.ensures, c.access_at.ensures) (one_told c.loop-i.answer c.as_slice-xs.result.now c.loop-i.i h ∙ c.loop-i.invariant)
 
-pub returns-in-Duo : goal.returns-in-Duo
-returns-in-Duo c = two_told c.args.answer.now c.in-Duo.is c.no_access-no.ensures c.put_four-in-Duo.ensures
-
-pub returns-in-Trio : goal.returns-in-Trio
-returns-in-Trio c = three_told c.args.answer.now c.in-Trio.is c.no_access-no.ensures c.put_four-in-Trio.ensures
-
-pub returns-in-Quartet : goal.returns-in-Quartet
-returns-in-Quartet c = four_told c.args.answer.now c.in-Quartet.is c.put_four-in-Quartet.ensures
+pub returns : goal.returns
+returns c =
+    let e : c.loop-i.i ≡ 4 = omega arith in
+    let value = c.as_slice-xs.ensures.value in
+    rw (e, value) at c.loop-i.invariant

@@ -5,4 +5,4 @@ use Rattle.host.proofs.stepping.run_lent.Goals as goal
 
 pub returns : goal.returns
 unfolding run_left run_told
-returns c = rw (← c.board_in-b.ensures, ← c.registers_in.ensures, ← c.run-q.ensures) (beside _ c.tell_run.ensures)
+returns c = rw (← c.board_in.ensures, ← c.run-q.ensures) (beside _ c.tell_run.ensures)

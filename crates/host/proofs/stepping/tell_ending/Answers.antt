@@ -1,15 +1,15 @@
-use mathlib.Core.Path.{◌∙◌}
-use Rattle.host.specs.Steps.{run_answer}
+use Prim.Native.Nat.{ℕ}
+use mathlib.Core.List.{List, [], ◌∷◌}
+use mathlib.Core.Path.{ap, ◌∙◌}
+use Rattle.host.specs.Answers.{tell}
+use Rattle.host.specs.MirrorAnswers.{headed}
+use Rattle.host.specs.declared.answers.Head.{Head}
+use Rattle.host.proofs.Told.{headed_told}
+use Rattle.host.proofs.Numbered.{run_numbers}
 use Rattle.host.proofs.stepping.tell_ending.Goals as goal
 
-pub returns-in-AtStop : goal.returns-in-AtStop
-unfolding run_answer
-returns-in-AtStop c = rw c.in-AtStop.is c.told_six.ensures
-
-pub returns-in-Spent : goal.returns-in-Spent
-unfolding run_answer
-returns-in-Spent c = rw c.in-Spent.is c.told_six-in-Spent.ensures
-
-pub returns-in-Halted : goal.returns-in-Halted
-unfolding run_answer
-returns-in-Halted c = rw c.in-Halted.is (c.told_six-in-Halted.ensures ∙ rw (c.group.ensures, c.place.ensures, c.number.ensures))
+pub returns : goal.returns
+returns c =
+    headed_told (c.args.steps ∷ c.args.states ∷ c.numbered-ending.result.1 ∷ []) c.args.answer.now c.told.ensures.number c.told.ensures.answer
+    ∙ ap (λ (k : Head × ℕ). tell (headed (λ (x : ℕ). x) k.0 (c.args.steps ∷ c.args.states ∷ k.1 ∷ [])) c.args.answer.now) c.numbered-ending.ensures
+    ∙ ap (λ (l : List ℕ). tell l c.args.answer.now) (run_numbers c.args.why c.args.steps c.args.states)

@@ -5,10 +5,10 @@ use Rattle.host.specs.Steps.{step_answer}
 use Rattle.host.proofs.Told.{keep}
 use Rattle.host.proofs.stepping.tell_step.Goals as goal
 
-pub returns-in-Done : goal.returns-in-Done
+pub returns-in-Ok : goal.returns-in-Ok
 unfolding step_told step_answer
-returns-in-Done c = let s = c in rw c.in-Done.is (keep c.told_step.ensures (ten_stored s.args.q.regs s.args.regs.now _ s.requires.0 c.put_registers.ensures))
+returns-in-Ok c = let s = c in rw c.in-Ok.is (keep c.told_step.ensures (ten_stored s.args.q.regs s.args.regs.now _ s.requires.0 c.put_registers.ensures))
 
-pub returns-in-Refused : goal.returns-in-Refused
+pub returns-in-Err : goal.returns-in-Err
 unfolding step_told step_answer
-returns-in-Refused c = rw c.in-Refused.is (keep c.refused_step.ensures refl)
+returns-in-Err c = rw c.in-Err.is (keep c.refused_step.ensures refl)

@@ -1,35 +1,5 @@
-use mathlib.Core.Path.{◌∙◌}
-use mathlib.Core.Bool.{true, false}
-use borrow.Author.Tests.{ne_eqb}
-use Rattle.arith.specs.declared.Width.TheVariants.{Byte, Word, Long}
-use Rattle.memory.specs.Trail.{call_in}
-use Rattle.memory.proofs.Trails.{same_places}
+use Rattle.memory.proofs.Trails.{call_few}
 use Rattle.memory.proofs.told.unpack.Goals as goal
 
-pub returns-in-1 : goal.returns-in-1
-unfolding call_in
-returns-in-1 c = rw c.in-1.is (c.made_at.ensures ∙ same_places false Byte _)
-
-pub returns-in-2 : goal.returns-in-2
-unfolding call_in
-returns-in-2 c = rw c.in-2.is (c.made_at-in-2.ensures ∙ same_places false Word _)
-
-pub returns-in-3 : goal.returns-in-3
-unfolding call_in
-returns-in-3 c = rw c.in-3.is (c.made_at-in-3.ensures ∙ same_places false Long _)
-
-pub returns-in-5 : goal.returns-in-5
-unfolding call_in
-returns-in-5 c = rw c.in-5.is (c.made_at-in-5.ensures ∙ same_places true Byte _)
-
-pub returns-in-6 : goal.returns-in-6
-unfolding call_in
-returns-in-6 c = rw c.in-6.is (c.made_at-in-6.ensures ∙ same_places true Word _)
-
-pub returns-in-7 : goal.returns-in-7
-unfolding call_in
-returns-in-7 c = rw c.in-7.is (c.made_at-in-7.ensures ∙ same_places true Long _)
-
-pub returns-in_default : goal.returns-in_default
-unfolding call_in
-returns-in_default c = let r = c.in_default.in_default-own.rest in rw (ne_eqb _ _ r.0.0.0.0.0.1, ne_eqb _ _ r.0.0.0.0.1, ne_eqb _ _ r.0.0.0.1, ne_eqb _ _ r.0.0.1, ne_eqb _ _ r.0.1, ne_eqb _ _ r.1)
+pub returns-clause-few : goal.returns-clause-few
+returns-clause-few c = rw (c.tell.ensures, c.new-list.ensures) (call_few _)

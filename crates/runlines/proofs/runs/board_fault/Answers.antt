@@ -3,7 +3,7 @@ use Rattle.runlines.proofs.runs.board_fault.Goals as goal
 
 pub returns-then-g : goal.returns-then-g
 unfolding board_fault
-returns-then-g c = rw c.if-g.true c.bytes.ensures
+returns-then-g c = rw c.if-g.true c.text.ensures
 
 pub returns-else-g : goal.returns-else-g
 unfolding board_fault

@@ -2,4 +2,4 @@ use Rattle.text.proofs.Adding.{more}
 use Rattle.runlines.proofs.runs.register.Goals as goal
 
 pub returns : goal.returns
-returns c = more c.put-l.ensures (more c.put-l-2.ensures (more c.put-l-3.ensures (more c.put-l-4.ensures (more c.put-l-5.ensures (more c.put-l-6.ensures (more c.put-l-7.ensures c.hex8.ensures))))))
+returns c = more _ _ _ _ _ c.text.ensures (more _ _ _ _ _ c.byte.ensures (more _ _ _ _ _ c.text-2.ensures c.hex.ensures))

@@ -1,11 +1,6 @@
 use Rattle.runlines.specs.Traces.{trace_heading}
-use Rattle.wording.proofs.Padding.{nothing}
 use Rattle.runlines.proofs.traces.trace_heading.Goals as goal
 
-pub returns-then-plain : goal.returns-then-plain
+pub returns-then-not-plain : goal.returns-then-not-plain
 unfolding trace_heading
-returns-then-plain c = rw c.if-plain.true nothing
-
-pub returns-else-plain : goal.returns-else-plain
-unfolding trace_heading
-returns-else-plain c = rw c.if-plain.false c.bytes.ensures
+returns-then-not-plain c = rw c.if-not-plain.true c.text.ensures

@@ -12,4 +12,4 @@ returns-in-Direct c = rw c.in-Direct.is
 
 pub returns-in-Vector : goal.returns-in-Vector
 unfolding most_of base_of
-returns-in-Vector c = rw c.in-Vector.is (omega (arith, c.most.ensures.0))
+returns-in-Vector c = rw c.in-Vector.is (omega (arith, rw c.from.ensures at c.most.ensures.0))

@@ -4,4 +4,4 @@ use Rattle.timing.proofs.parts.through.Goals as goal
 
 pub returns : goal.returns
 unfolding most_of base_of most_at
-returns c = omega (arith, c.dearest.ensures.0, c.most-aim.ensures.0)
+returns c = omega (arith, c.dearest.ensures.0, rw c.from.ensures at c.most-aim.ensures.0)

@@ -1,7 +1,0 @@
-use Rattle.codes.proofs.alu_states.Goals as goal
-
-pub returns-in-Reg : goal.returns-in-Reg
-returns-in-Reg c = simp (c.in-Reg.is, c.reg_states.ensures)
-
-pub returns-in-Imm : goal.returns-in-Imm
-returns-in-Imm c = simp (c.in-Imm.is, c.imm_states.ensures)

@@ -1,4 +1,0 @@
-use Rattle.decoder.proofs.plan.divide.Goals as goal
-
-pub returns : goal.returns
-returns c = simp (c.held.ensures, c.product_width.ensures)

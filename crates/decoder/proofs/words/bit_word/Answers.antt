@@ -1,8 +1,0 @@
-use borrow.Author.Tests.{eq-eqb, ne_eqb}
-use Rattle.decoder.proofs.words.bit_word.Goals as goal
-
-pub returns-then-a-eq0 : goal.returns-then-a-eq0
-returns-then-a-eq0 c = simp (eq-eqb _ _ c.if-a-eq0.true, c.reads.ensures)
-
-pub returns-else-a-eq0 : goal.returns-else-a-eq0
-returns-else-a-eq0 c = simp (ne_eqb _ _ c.if-a-eq0.false, c.writes.ensures)

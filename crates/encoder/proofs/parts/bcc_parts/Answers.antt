@@ -1,7 +1,0 @@
-use Rattle.encoder.proofs.parts.bcc_parts.Goals as goal
-
-pub returns-in-Near : goal.returns-in-Near
-returns-in-Near c = simp (c.in-Near.is, c.one.ensures, c.wide.ensures.0, c.digits.ensures)
-
-pub returns-in-Far : goal.returns-in-Far
-returns-in-Far c = simp (c.in-Far.is, c.made.ensures, c.digits-in-Far.ensures)

@@ -1,4 +1,0 @@
-use Rattle.layout.proofs.lent.put_high.Goals as goal
-
-pub returns : goal.returns
-returns c = simp c.put_four_at.ensures

@@ -1,7 +1,0 @@
-use Rattle.layout.proofs.rows.if_same.Goals as goal
-
-pub returns-then-t : goal.returns-then-t
-returns-then-t c = rw c.if-t.true
-
-pub returns-else-t : goal.returns-else-t
-returns-else-t c = rw c.if-t.false

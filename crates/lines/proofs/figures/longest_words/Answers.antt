@@ -1,5 +1,0 @@
-use Rattle.text.proofs.Adding.{more}
-use Rattle.lines.proofs.figures.longest_words.Goals as goal
-
-pub returns : goal.returns
-returns c = more c.bytes-l.ensures (more c.place-l.ensures (more c.bytes-l-2.ensures (more c.decimal-l.ensures c.bytes.ensures)))

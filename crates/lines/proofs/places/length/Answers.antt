@@ -1,4 +1,0 @@
-use Rattle.lines.proofs.places.length.Goals as goal
-
-pub returns-in-Code : goal.returns-in-Code
-returns-in-Code c = rw c.in-Code.is ((cc))

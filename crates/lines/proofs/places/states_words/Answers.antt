@@ -1,7 +1,0 @@
-use Rattle.lines.proofs.places.states_words.Goals as goal
-
-pub returns-in-Code : goal.returns-in-Code
-returns-in-Code c = rw (← c.decoded-d.ensures, c.in-Code.is, ← c.counted-n.ensures) c.decimal.ensures
-
-pub returns-in-NoCode : goal.returns-in-NoCode
-returns-in-NoCode c = rw (← c.decoded-d.ensures, c.in-NoCode.is) c.put.ensures

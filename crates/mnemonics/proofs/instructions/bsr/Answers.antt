@@ -1,5 +1,0 @@
-use Rattle.text.proofs.Adding.{more}
-use Rattle.mnemonics.proofs.instructions.bsr.Goals as goal
-
-pub returns : goal.returns
-returns c = more c.bytes-a.ensures c.reach.ensures

@@ -1,5 +1,0 @@
-use Rattle.text.proofs.Adding.{more}
-use Rattle.mnemonics.proofs.instructions.jmp.Goals as goal
-
-pub returns : goal.returns
-returns c = more c.bytes-a.ensures c.target.ensures

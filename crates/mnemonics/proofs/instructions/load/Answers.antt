@@ -1,5 +1,0 @@
-use Rattle.text.proofs.Adding.{more}
-use Rattle.mnemonics.proofs.instructions.load.Goals as goal
-
-pub returns : goal.returns
-returns c = more c.op_name-l.ensures (more c.mark-l.ensures (more c.put-l.ensures (more c.place-l.ensures (more c.put-l-2.ensures c.reg.ensures))))

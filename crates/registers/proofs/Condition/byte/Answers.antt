@@ -1,6 +1,0 @@
-use Rattle.registers.specs.Condition.{byte_of}
-use Rattle.registers.proofs.Condition.byte.Goals as goal
-
-pub returns : goal.returns
-unfolding byte_of
-returns c = cc

@@ -1,5 +1,0 @@
-use Rattle.text.proofs.Adding.{more}
-use Rattle.runlines.proofs.runs.four_plain.Goals as goal
-
-pub returns : goal.returns
-returns c = more c.register-l.ensures (more c.register-l-2.ensures (more c.register-l-3.ensures c.register.ensures))

@@ -1,7 +1,0 @@
-use Rattle.text.proofs.numbers.letter.Goals as goal
-
-pub returns-then-upper : goal.returns-then-upper
-returns-then-upper c = rw (c.if-upper.true)
-
-pub returns-else-upper : goal.returns-else-upper
-returns-else-upper c = rw (c.if-upper.false)

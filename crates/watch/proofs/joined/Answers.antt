@@ -1,7 +1,0 @@
-use Rattle.watch.proofs.joined.Goals as goal
-
-pub returns-in-Alone : goal.returns-in-Alone
-returns-in-Alone c = rw c.in-Alone.is c.behind_one.ensures
-
-pub returns-in-Pair : goal.returns-in-Pair
-returns-in-Pair c = rw c.in-Pair.is c.behind_two.ensures
