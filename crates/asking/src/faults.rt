@@ -13,31 +13,31 @@ fn error(plain: bool) -> &'static str
     if plain { "error " } else { "error: " }
 }
 
-pub fn missing(l: &mut Line, plain: bool, name: &str, expected: &str)
+pub fn missing(l: &mut Line, plain: bool, name: &[u8], expected: &[u8])
     ensures { l.new ≡ added l.old (missing_text plain name.now expected.now) }
 {
     l.text(error(plain));
-    l.text(name);
+    l.bytes(name);
     l.text(" is missing: expected ");
-    l.text(expected);
+    l.bytes(expected);
     l.byte(b'\n');
 }
 
 // What stands before the argument as it was given.
-pub fn wrong(l: &mut Line, plain: bool, name: &str, is: &str)
+pub fn wrong(l: &mut Line, plain: bool, name: &[u8], is: &[u8])
     ensures { l.new ≡ added l.old (wrong_text plain name.now is.now) }
 {
     l.text(error(plain));
-    l.text(name);
-    l.text(is);
+    l.bytes(name);
+    l.bytes(is);
 }
 
 // What stands behind it.
-pub fn expected(l: &mut Line, what: &str)
+pub fn expected(l: &mut Line, what: &[u8])
     ensures { l.new ≡ added l.old (expected_text what.now) }
 {
     l.text(": expected ");
-    l.text(what);
+    l.bytes(what);
     l.byte(b'\n');
 }
 

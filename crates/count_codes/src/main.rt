@@ -16,20 +16,22 @@ where
     (0..=u16::MAX).filter(|&word| wanted(answer(word))).count()
 }
 
+// Whether that is a refusal of that number and group.
+fn refused(d: Result<(Instruction, usize), Refusal>, number: u32, group: u32) -> bool {
+    d.is_err_and(|f| f.number() == number && f.group() == group)
+}
+
 fn first_words(rt: &impl Print) -> io::Result<()> {
     let alone = |word: u16| decoder::decode(&word.to_be_bytes());
     let whole = count(alone, |d| d.is_ok());
     println!(rt; "first words that are a whole code: {whole}")?;
-    let begin = count(alone, |d| matches!(d, Err(Refusal::CutShort(_))));
+    let begin = count(alone, |d| refused(d, 4, 0));
     println!(rt; "first words that begin a longer code: {begin}")?;
     for group in 3..=7 {
-        let left_out = count(
-            alone,
-            |d| matches!(d, Err(f @ Refusal::LeftOut(_)) if f.group() == group),
-        );
+        let left_out = count(alone, |d| refused(d, 15, group));
         println!(rt; "first words of codes left out, group {group}: {left_out}")?;
     }
-    let none = count(alone, |d| matches!(d, Err(Refusal::UnknownCode(_))));
+    let none = count(alone, |d| refused(d, 3, 0));
     println!(rt; "first words that begin none: {none}")
 }
 
@@ -42,7 +44,7 @@ fn second_words(rt: &impl Print) -> io::Result<()> {
             let [c, d] = word.to_be_bytes();
             decoder::decode(&[a, b, c, d])
         };
-        let begin = count(behind, |d| matches!(d, Ok(_) | Err(Refusal::CutShort(_))));
+        let begin = count(behind, |d| d.is_ok() || refused(d, 4, 0));
         println!(rt; "second words after {first:04X} that are or begin a code: {begin}")?;
     }
     Ok(())

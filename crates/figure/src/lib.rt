@@ -91,7 +91,7 @@ fn no_way(k: Site, rom: &[u8], place: u32, low: u64) -> Refusal
 }
 
 // The longest way from a place by its row.
-#[tactic(auto, unfolding(crate::specs::MirrorFigure::on_from, paths::specs::MirrorRows::onward_of))]
+#[tactic(auto, unfolding(crate::specs::MirrorFigure::on_from))]
 fn on_from(
     k: Site,
     rom: &[u8],
@@ -104,8 +104,7 @@ fn on_from(
     if r.low != NONE {
         return Err(no_way(k, rom, place, r.low));
     }
-    let f = listing::flow_at(k, rom, place)?;
-    Ok(table.onward(f))
+    table.onward(listing::flow_at(k, rom, place))
 }
 
 // Where the longest path from a place goes next, by a table that `figure` filled; nowhere, where it returns.

@@ -65,7 +65,10 @@ fn begin(
     is: &str,
     at: Argument,
 ) -> io::Result<()> {
-    show::say(rt, |l| asking::wrong(l, plain, wanted.name(), is))?;
+    show::say(
+        rt,
+        |l| asking::wrong(l, plain, wanted.name().as_bytes(), is.as_bytes()),
+    )?;
     given(rt, at)
 }
 
@@ -76,12 +79,17 @@ impl Fault {
             Fault::Missing(wanted) => {
                 show::say(
                     rt,
-                    |l| asking::missing(l, plain, wanted.name(), wanted.expected()),
+                    |l| asking::missing(
+                        l,
+                        plain,
+                        wanted.name().as_bytes(),
+                        wanted.expected().as_bytes(),
+                    ),
                 )
             }
             Fault::Wrong(wanted, at) => {
                 begin(rt, plain, wanted, " is ", at)?;
-                show::say(rt, |l| asking::expected(l, wanted.expected()))
+                show::say(rt, |l| asking::expected(l, wanted.expected().as_bytes()))
             }
             Fault::Unread(wanted, at, error) => {
                 begin(rt, plain, wanted, " ", at)?;

@@ -168,9 +168,9 @@ impl<R: Runtime> Tool<'_, R> {
         };
         self.say(|l| runlines::replayed(
             l,
-            first,
+            first.as_bytes(),
             answer.steps,
-            ", states ",
+            b", states ",
             answer.states,
             plain,
         ))?;

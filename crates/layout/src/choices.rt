@@ -1,11 +1,79 @@
-// The choice of a number of host/h8.h, and of one past its list the last: what can't fail. `TryFrom` and the rows refuse such a number.
+// The number of a choice in host/h8.h, its place in its list; and the choice of a number, of one past its list the last: what can't fail. `TryFrom` and the
+// rows refuse such a number.
 ghost use Rattle.std.specs.Prelude.{◌≡◌};
+ghost use Rattle.layout.specs.Choices.{width_number, change_number, op_number, way_number, by_number, turn_number, single_number, dir_number, sign_number, take_number, give_number};
 ghost use Rattle.layout.specs.MirrorChoices.{width_at, change_at, op_at, way_at, by_at, turn_at, single_at, dir_at, sign_at, half_at, take_at, give_at};
 
 use crate::rows;
 use arith::Width;
 use codes::{By, Change, Dir, Give, Op, Sign, Single, Take, Turn, Way};
 use products::Half;
+
+pub fn width_number(w: Width) -> u32
+    ensures { result ≡ width_number w }
+{
+    w as u32
+}
+
+pub fn change_number(change: Change) -> u32
+    ensures { result ≡ change_number change }
+{
+    change as u32
+}
+
+pub fn op_number(op: Op) -> u32
+    ensures { result ≡ op_number op }
+{
+    op as u32
+}
+
+pub fn way_number(way: Way) -> u32
+    ensures { result ≡ way_number way }
+{
+    way as u32
+}
+
+pub fn by_number(by: By) -> u32
+    ensures { result ≡ by_number by }
+{
+    by as u32
+}
+
+pub fn turn_number(turn: Turn) -> u32
+    ensures { result ≡ turn_number turn }
+{
+    turn as u32
+}
+
+pub fn single_number(single: Single) -> u32
+    ensures { result ≡ single_number single }
+{
+    single as u32
+}
+
+pub fn dir_number(dir: Dir) -> u32
+    ensures { result ≡ dir_number dir }
+{
+    dir as u32
+}
+
+pub fn sign_number(sign: Sign) -> u32
+    ensures { result ≡ sign_number sign }
+{
+    sign as u32
+}
+
+pub fn take_number(take: Take) -> u32
+    ensures { result ≡ take_number take }
+{
+    take as u32
+}
+
+pub fn give_number(give: Give) -> u32
+    ensures { result ≡ give_number give }
+{
+    give as u32
+}
 
 #[tactic(auto, unfolding(crate::specs::MirrorChoices::width_at))]
 pub fn width_at(n: u32) -> Width

@@ -3,6 +3,7 @@ ghost use Rattle.std.specs.Prelude.{◌≡◌, ◌%◌};
 ghost use Rattle.layout.specs.Rows.{operand, no_operand, source_row, by_row, value_row, place_row, reach_row, target_row, row, product_row, bit_row, row_of};
 ghost use Rattle.layout.specs.MirrorRows.{width_at, half_at, source_at, place_at, reach_at, target_at, index_at, spot_at, read_row, named_of};
 
+use crate::choices;
 use arith::Width;
 use codes::{By, Index, Instruction, Place, Reach, Sign, Source, Spot, Target};
 use products::Half;
@@ -49,7 +50,7 @@ impl From<By> for Operand {
     ghost from_gives = { λ by o. o ≡ by_row by };
 
     fn from(by: By) -> Operand {
-        Operand::new(by as u32, 0, 0)
+        Operand::new(choices::by_number(by), 0, 0)
     }
 }
 
@@ -125,8 +126,8 @@ fn product_row(kind: u32, sign: Sign, h: Half, s: u8, d: u8) -> Row
 {
     made(
         kind,
-        sign as u32,
-        products::factor_width(h) as u32,
+        choices::sign_number(sign),
+        choices::width_number(products::factor_width(h)),
         Source::Reg(s).into(),
         d,
     )
@@ -162,14 +163,42 @@ pub fn row_of(i: Instruction) -> Row
         Instruction::Nop => bare(0, 0, 0, 0),
         Instruction::Stc(d) => bare(1, 0, 0, d),
         Instruction::LdcReg(s) => bare(2, 0, 0, s),
-        Instruction::Ccr(change, v) => made(3, change as u32, 0, v.into(), 0),
-        Instruction::Alu(op, w, source, d) => made(4, op as u32, w as u32, source.into(), d),
-        Instruction::IncDec(way, w, by, d) => made(5, way as u32, w as u32, by.into(), d),
-        Instruction::AddsSubs(way, by, d) => made(6, way as u32, 0, by.into(), d),
-        Instruction::Decimal(way, d) => bare(7, way as u32, 0, d),
-        Instruction::Shift(turn, w, d) => bare(8, turn as u32, w as u32, d),
-        Instruction::Unary(single, w, d) => bare(9, single as u32, w as u32, d),
-        Instruction::Move(dir, w, p, r) => made(10, dir as u32, w as u32, p.into(), r),
+        Instruction::Ccr(change, v) => made(3, choices::change_number(change), 0, v.into(), 0),
+        Instruction::Alu(op, w, source, d) => made(
+            4,
+            choices::op_number(op),
+            choices::width_number(w),
+            source.into(),
+            d,
+        ),
+        Instruction::IncDec(way, w, by, d) => made(
+            5,
+            choices::way_number(way),
+            choices::width_number(w),
+            by.into(),
+            d,
+        ),
+        Instruction::AddsSubs(way, by, d) => made(6, choices::way_number(way), 0, by.into(), d),
+        Instruction::Decimal(way, d) => bare(7, choices::way_number(way), 0, d),
+        Instruction::Shift(turn, w, d) => bare(
+            8,
+            choices::turn_number(turn),
+            choices::width_number(w),
+            d,
+        ),
+        Instruction::Unary(single, w, d) => bare(
+            9,
+            choices::single_number(single),
+            choices::width_number(w),
+            d,
+        ),
+        Instruction::Move(dir, w, p, r) => made(
+            10,
+            choices::dir_number(dir),
+            choices::width_number(w),
+            p.into(),
+            r,
+        ),
         Instruction::Bcc(c, reach) => made(11, c as u32, 0, reach.into(), 0),
         Instruction::Jmp(target) => made(12, 0, 0, target.into(), 0),
         Instruction::Bsr(reach) => made(13, 0, 0, reach.into(), 0),
@@ -177,8 +206,18 @@ pub fn row_of(i: Instruction) -> Row
         Instruction::Rts => bare(15, 0, 0, 0),
         Instruction::Multiply(sign, h, s, d) => product_row(16, sign, h, s, d),
         Instruction::Divide(sign, h, s, d) => product_row(17, sign, h, s, d),
-        Instruction::Takes(take, index, spot) => bit_row(18, take as u32, index, spot),
-        Instruction::Gives(give, index, spot) => bit_row(19, give as u32, index, spot),
+        Instruction::Takes(take, index, spot) => bit_row(
+            18,
+            choices::take_number(take),
+            index,
+            spot,
+        ),
+        Instruction::Gives(give, index, spot) => bit_row(
+            19,
+            choices::give_number(give),
+            index,
+            spot,
+        ),
     }
 }
 

@@ -38,8 +38,8 @@ fn inside_named(t: u32, n: u64) -> Line
     ensures { result ≡ added [] (inside_named t n) }
 {
     let mut l = Line::new();
-    parts::place(&mut l, "routine", t);
-    parts::number(&mut l, "states", n);
+    parts::place(&mut l, b"routine", t);
+    parts::number(&mut l, b"states", n);
     l
 }
 
@@ -108,7 +108,7 @@ pub fn level(depth: u8, plain: bool) -> Line
 {
     let mut l = Line::new();
     if plain {
-        parts::number(&mut l, "level", u64::from(depth));
+        parts::number(&mut l, b"level", u64::from(depth));
     } else {
         l.pad(usize::from(depth) * 2);
     }

@@ -24,7 +24,7 @@ pub fn longest(l: &mut Line, entry: u32, n: u64, plain: bool)
     ensures { l.new ≡ added l.old (longest_text entry n plain) }
 {
     if plain {
-        parts::number(l, "figure", n);
+        parts::number(l, b"figure", n);
     } else {
         longest_words(l, entry, n);
     }
@@ -62,17 +62,17 @@ fn fits_plain(l: &mut Line, n: u64, gap: u64)
 {
     if n <= gap {
         l.text("fits yes\n");
-        parts::number(l, "left", gap - n);
+        parts::number(l, b"left", gap - n);
     } else {
         l.text("fits no\n");
-        parts::number(l, "missing", n - gap);
+        parts::number(l, b"missing", n - gap);
     }
 }
 
 fn gap_plain(l: &mut Line, n: u64, gap: u64)
     ensures { l.new ≡ added l.old (gap_plain n gap) }
 {
-    parts::number(l, "gap", gap);
+    parts::number(l, b"gap", gap);
     fits_plain(l, n, gap);
 }
 

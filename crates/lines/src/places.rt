@@ -76,7 +76,11 @@ impl Code<'_> {
         ensures { l.new ≡ added l.old (states_plain self.entry.site (decoded_at self.entry.rom.now p)) }
     {
         if let Ok((i, _)) = self.decoded(p) {
-            parts::number(l, "states", u64::from(timing::parts::counted(self.site, i)));
+            parts::number(
+                l,
+                b"states",
+                u64::from(timing::parts::counted(self.site, i)),
+            );
         }
     }
 
@@ -99,7 +103,7 @@ impl Code<'_> {
         ensures { result ≡ added [] (named_text self.entry.site self.entry.rom.now p (decoded_at self.entry.rom.now p)) }
     {
         let mut l = Line::new();
-        parts::place(&mut l, "place", p);
+        parts::place(&mut l, b"place", p);
         l.text("bytes ");
         wording::bytes(&mut l, self.rom, p, self.length_at(p));
         l.text("\ntext ");
@@ -147,7 +151,7 @@ pub fn last_number(l: &mut Line, name: &str, n: u64, plain: bool)
     ensures { l.new ≡ added l.old (last_number name.now n plain) }
 {
     if plain {
-        parts::number(l, name, n);
+        parts::number(l, name.as_bytes(), n);
     } else {
         l.decimal(n);
         l.byte(b'\n');
@@ -158,7 +162,7 @@ fn lowest(l: &mut Line, p: u32, plain: bool)
     ensures { l.new ≡ added l.old (lowest_text p plain) }
 {
     if plain {
-        parts::place(l, "lowest", p);
+        parts::place(l, b"lowest", p);
     } else {
         l.text("refused at ");
         l.place(p);

@@ -14,11 +14,11 @@ fn carried_fault(l: &mut Line, rom: usize, a: Area)
     ensures { l.new ≡ added l.old (carried_fault rom a) }
 {
     if (a.base as usize) < rom {
-        ports::area_fault(l, a, "1: BASE of --port is below the end of the ROM");
+        ports::area_fault(l, a, b"1: BASE of --port is below the end of the ROM");
     } else if 16777216 < a.end {
-        ports::area_fault(l, a, "1: the ports do not end at or below 0x1000000");
+        ports::area_fault(l, a, b"1: the ports do not end at or below 0x1000000");
     } else {
-        ports::area_fault(l, a, "1: there are more than 65536 bytes of ports");
+        ports::area_fault(l, a, b"1: there are more than 65536 bytes of ports");
     }
 }
 

@@ -8,7 +8,6 @@ use arith::Width::{Byte, Long, Word};
 use memory::Board;
 use refusal::Refusal;
 use site::{Area, Site};
-use std::alloc::{AllocError, Global};
 use std::io;
 
 // A width's name, and the number of digits of a value that is so wide.
@@ -271,18 +270,25 @@ fn boards(rt: &impl Print) -> io::Result<()> {
     Ok(())
 }
 
-// Of a function of its own: a literal as long as the longest code is more than a proof can compute with.
-fn zeros(alloc: Global, n: usize) -> Result<Vec<u8>, AllocError> {
-    Ok(vec![in alloc; 0; n]?)
+fn large_boards(rt: &impl Print) -> io::Result<()> {
+    let code = [0; 524288];
+    let long_code = [0; 524290];
+    let data = [0; 65536];
+    let long_data = [0; 65538];
+    with_arrays(rt, &code, &long_code, &data, &long_data)
 }
 
-fn large_boards(rt: &impl Print, alloc: Global) -> io::Result<()> {
+// Of a function of its own, as `long_sites` below: a literal as long as the longest code is more than a proof can compute with.
+fn with_arrays(
+    rt: &impl Print,
+    code: &[u8; 524288],
+    long_code: &[u8; 524290],
+    data: &[u8; 65536],
+    long_data: &[u8; 65538],
+) -> io::Result<()> {
     let base = 0x100000;
-    let code = zeros(alloc, 524288)?;
-    let long_code = zeros(alloc, 524290)?;
-    let data = zeros(alloc, 65536)?;
-    let long_data = zeros(alloc, 65538)?;
-    for (rom, ram) in [(&code, &data), (&long_code, &data), (&code, &long_data)] {
+    let (code, data) = (&code[..], &data[..]);
+    for (rom, ram) in [(code, data), (&long_code[..], data), (code, &long_data[..])] {
         Memories { base, rom, ram }.check(rt)?;
     }
     Ok(())
@@ -411,9 +417,15 @@ const AT_THE_END_OF_LONG_CODE: [(u32, u32, u32); 4] = [
     (0x100000, 0x100000, 8),
 ];
 
-fn sites_with_long_code(rt: &impl Print, alloc: Global) -> io::Result<()> {
-    check_sites(rt, &zeros(alloc, 524288)?, &AT_THE_END_OF_LONG_CODE)?;
-    check_sites(rt, &zeros(alloc, 524290)?, &[(0x100000, 0x100000, 8)])
+fn sites_with_long_code(rt: &impl Print) -> io::Result<()> {
+    let code = [0; 524288];
+    let long_code = [0; 524290];
+    long_sites(rt, &code, &long_code)
+}
+
+fn long_sites(rt: &impl Print, code: &[u8; 524288], long_code: &[u8; 524290]) -> io::Result<()> {
+    check_sites(rt, &code[..], &AT_THE_END_OF_LONG_CODE)?;
+    check_sites(rt, &long_code[..], &[(0x100000, 0x100000, 8)])
 }
 
 fn main(rt: HostRuntime) -> io::Result<()> {
@@ -422,9 +434,9 @@ fn main(rt: HostRuntime) -> io::Result<()> {
     at_the_seam(&rt)?;
     with_empty_memories(&rt)?;
     boards(&rt)?;
-    large_boards(&rt, rt.alloc())?;
+    large_boards(&rt)?;
     areas(&rt)?;
     areas_at_the_limits(&rt)?;
     sites_with_short_code(&rt)?;
-    sites_with_long_code(&rt, rt.alloc())
+    sites_with_long_code(&rt)
 }

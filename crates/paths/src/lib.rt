@@ -2,7 +2,7 @@
 #![tactic(auto)]
 
 ghost use Rattle.std.specs.Prelude.{◌≡◌, ◌+◌, ◌-◌, ◌%◌, min, max, ◌||◌, nat_le, slice_index};
-ghost use Rattle.paths.specs.MirrorRows.{barred, row_of, unpacked_of, level_of, shown_of, why_of, turned_of, own_of, better_of, toward_of};
+ghost use Rattle.paths.specs.MirrorRows.{barred, row_of, unpacked_of, level_of, shown_of, why_of, turned_of, own_of, better_of, toward_of, onward_of};
 ghost use Rattle.paths.specs.MirrorPacked.{packed_bar, packed_at, packed_total, packed_join, packed_call, packed_up, packed_in, packed_flow, notes_for, notes_of, noted_of, kind_at};
 
 use refusal::Refusal;
@@ -195,7 +195,7 @@ impl<'a> Filled<'a> {
 
     // Where the longest way goes on from a place with the flow f; nowhere, where it returns.
     #[tactic(auto, unfolding(crate::specs::MirrorRows::toward_of))]
-    pub fn onward(self, f: Flow) -> Option<u32>
+    fn toward(self, f: Flow) -> Option<u32>
         ensures { result ≡ toward_of self.entry.len self.entry.table.now f }
     {
         match f {
@@ -205,6 +205,14 @@ impl<'a> Filled<'a> {
             Flow::Call(n, _, _) => Some(n),
             Flow::Ends(_) => None,
         }
+    }
+
+    // The same, and why there is nothing to follow, where that is so.
+    #[tactic(auto, unfolding(crate::specs::MirrorRows::onward_of))]
+    pub fn onward(self, f: Result<Flow, Refusal>) -> Result<Option<u32>, Refusal>
+        ensures { result ≡ onward_of self.entry.len self.entry.table.now f }
+    {
+        Ok(self.toward(f?))
     }
 }
 

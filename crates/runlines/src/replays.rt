@@ -16,22 +16,22 @@ use wording::parts;
 fn counts(l: &mut Line, records: u32, states: u64)
     ensures { l.new ≡ added l.old (number_line (ascii "agreed") records ++ number_line (ascii "states") states) }
 {
-    parts::number(l, "agreed", u64::from(records));
-    parts::number(l, "states", states);
+    parts::number(l, b"agreed", u64::from(records));
+    parts::number(l, b"states", states);
 }
 
-fn sentence(l: &mut Line, first: &str, records: u32, middle: &str, states: u64)
+fn sentence(l: &mut Line, first: &[u8], records: u32, middle: &[u8], states: u64)
     ensures { l.new ≡ added l.old (first.now ++ (decimal_of records ++ (middle.now ++ (decimal_of states ++ ascii "\n")))) }
 {
-    l.text(first);
+    l.bytes(first);
     l.decimal(u64::from(records));
-    l.text(middle);
+    l.bytes(middle);
     l.decimal(states);
     l.byte(b'\n');
 }
 
 // The records that agreed and their states; in words what stands before each of the two is given.
-pub fn replayed(l: &mut Line, first: &str, records: u32, middle: &str, states: u64, plain: bool)
+pub fn replayed(l: &mut Line, first: &[u8], records: u32, middle: &[u8], states: u64, plain: bool)
     ensures { l.new ≡ added l.old (replayed_text first.now records middle.now states plain) }
 {
     if plain {
@@ -90,7 +90,7 @@ fn differs_words(l: &mut Line, n: u32, f: Field, here: u32, there: u32)
 fn differs_plain(l: &mut Line, n: u32, f: Field, here: u32, there: u32)
     ensures { l.new ≡ added l.old (differs_plain n f here there) }
 {
-    parts::number(l, "record", u64::from(n));
+    parts::number(l, b"record", u64::from(n));
     l.text(field_name(f));
     l.text("here ");
     value(l, f, here);
@@ -113,7 +113,7 @@ pub fn differs(l: &mut Line, n: u32, f: Field, here: u32, there: u32, plain: boo
 fn stands_plain(l: &mut Line, rom: &[u8], p: u32)
     ensures { l.new ≡ added l.old (place_line (ascii "place") p ++ (ascii "text " ++ (stands_at rom.now p ++ ascii "\n"))) }
 {
-    parts::place(l, "place", p);
+    parts::place(l, b"place", p);
     l.text("text ");
     wording::stands(l, rom, p);
     l.byte(b'\n');

@@ -55,7 +55,7 @@ fn elsewhere_plain(l: &mut Line, to: u32)
     ensures { l.new ≡ added l.old (elsewhere_plain to) }
 {
     l.text("ended elsewhere\n");
-    parts::place(l, "kept", to);
+    parts::place(l, b"kept", to);
 }
 
 fn ended_plain(l: &mut Line, rom: &[u8], e: Ending, to: u32)

@@ -42,7 +42,7 @@ fn ram_fault(l: &mut Line, g: Given)
     } else if g.base < g.code {
         l.text("1: BASE of --ram is below the end of the ROM");
     } else {
-        ports::area_fault(l, g.area, "1: the ports are not inside the working memory");
+        ports::area_fault(l, g.area, b"1: the ports are not inside the working memory");
     }
 }
 
@@ -143,8 +143,8 @@ pub fn counts_words(l: &mut Line, entry: u32, steps: u32, states: u64)
 pub fn counts_plain(l: &mut Line, steps: u32, states: u64)
     ensures { l.new ≡ added l.old (counts_plain steps states) }
 {
-    parts::number(l, "steps", u64::from(steps));
-    parts::number(l, "states", states);
+    parts::number(l, b"steps", u64::from(steps));
+    parts::number(l, b"states", states);
 }
 
 fn told_words(l: &mut Line, rom: &[u8], g: Given, a: RunAnswer)

@@ -74,11 +74,11 @@ fn in_names(rom: &[u8], p: u32, states: u32) -> Line
     ensures { result ≡ added [] (traced_plain rom.now p states) }
 {
     let mut l = Line::new();
-    parts::place(&mut l, "place", p);
+    parts::place(&mut l, b"place", p);
     l.text("text ");
     wording::found_at(&mut l, rom, p);
     l.byte(b'\n');
-    parts::number(&mut l, "states", u64::from(states));
+    parts::number(&mut l, b"states", u64::from(states));
     l
 }
 

@@ -13,7 +13,7 @@ use registers::Registers;
 use step::StepAnswer;
 
 // A step, and its data accesses in the order made.
-#[derive(Drop)]
+#[derive(Clone, Copy)]
 pub struct Watched {
     pub answer: StepAnswer,
     pub list: Accesses,
@@ -29,7 +29,7 @@ fn unpacked(o: Result<(), Refusal>, trail: u64) -> Accesses
     }
     let mut list = told::unpack(trail / 134217728);
     let later = told::unpack(trail % 134217728);
-    list.try_extend_from_slice(later.as_slice()).unwrap();
+    list.append(later);
     list
 }
 

@@ -6,19 +6,19 @@ ghost use Rattle.wording.specs.Parts.{number_line, place_line, group_line, numbe
 use refusal::Refusal;
 use text::Line;
 
-pub fn number(l: &mut Line, name: &str, n: u64)
+pub fn number(l: &mut Line, name: &[u8], n: u64)
     ensures { l.new ≡ added l.old (number_line name.now n) }
 {
-    l.text(name);
+    l.bytes(name);
     l.byte(b' ');
     l.decimal(n);
     l.byte(b'\n');
 }
 
-pub fn place(l: &mut Line, name: &str, p: u32)
+pub fn place(l: &mut Line, name: &[u8], p: u32)
     ensures { l.new ≡ added l.old (place_line name.now p) }
 {
-    l.text(name);
+    l.bytes(name);
     l.byte(b' ');
     l.place(p);
     l.byte(b'\n');
@@ -29,15 +29,15 @@ fn grouped(l: &mut Line, g: u32)
     ensures { l.new ≡ added l.old (group_line g) }
 {
     if g != 0 {
-        number(l, "group", u64::from(g));
+        number(l, b"group", u64::from(g));
     }
 }
 
 fn numbered(l: &mut Line, f: Refusal)
     ensures { l.new ≡ added l.old (numbered_text f) }
 {
-    number(l, "refusal", u64::from(f.number()));
-    place(l, "place", f.place());
+    number(l, b"refusal", u64::from(f.number()));
+    place(l, b"place", f.place());
     grouped(l, f.group());
     l.text("why ");
 }

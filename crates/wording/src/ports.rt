@@ -8,7 +8,7 @@ use text::Line;
 
 // Which number of --port is wrong; if none is by itself, `otherwise`.
 #[tactic(auto, using(text::proofs::Adding::added_append), unfolding(text::specs::Lines::added, crate::specs::Ports::area_fault))]
-pub fn area_fault(l: &mut Line, a: Area, otherwise: &str)
+pub fn area_fault(l: &mut Line, a: Area, otherwise: &[u8])
     ensures { l.new ≡ added l.old (area_fault a otherwise.now) }
 {
     if a.base % 2 == 1 {
@@ -18,6 +18,6 @@ pub fn area_fault(l: &mut Line, a: Area, otherwise: &str)
     } else if a.end < a.base {
         l.text("1: BASE of --port is above END");
     } else {
-        l.text(otherwise);
+        l.bytes(otherwise);
     }
 }

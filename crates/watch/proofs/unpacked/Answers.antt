@@ -3,6 +3,9 @@ use mathlib.Core.List.{List, [], ◌++◌}
 use mathlib.Core.Path.{◌≡◌, refl, sym, ◌∙◌}
 use Rattle.std.specs.Prelude.{Result, Ok, Err}
 use Rattle.std.specs.Result.{is_err}
+use Rattle.std.proofs.Common.{arith, length, ap, length-append}
+use Rattle.std.proofs.Math.Nat.{min-le_left}
+use Rattle.std.proofs.lemmas.List.{take_all, length-take}
 use Rattle.refusal.specs.declared.Refusal.{Refusal}
 use Rattle.memory.specs.Trail.{trail_in}
 use Rattle.memory.specs.declared.told.Access.{Access}
@@ -25,5 +28,16 @@ returns-then-is_err-clause-list c = c.new.ensures ∙ sym (when_refused c.args.o
 pub returns-clause-list : goal.returns-clause-list
 unfolding trail_in
 returns-clause-list c =
-    (rw c.unwrap.ensures at c.try_extend_from_slice.ensures.ok)
-    ∙ rw (c.as_slice.ensures.value, c.unpack-list.ensures.call, c.unpack-later.ensures.call, when_done c.args.o (trail_in c.args.trail) (sym c.is_err.ensures.value ∙ c.if-is_err.false)) refl
+    let e = c.unpack-list.ensures in
+    let l = c.unpack-later.ensures in
+    let n = length-append c.unpack-list.result.items c.unpack-later.result.items in
+    c.append.ensures
+    ∙ take_all 4 (c.unpack-list.result.items ++ c.unpack-later.result.items) (omega (arith, n, e.few, l.few))
+    ∙ rw (e.call, l.call, when_done c.args.o (trail_in c.args.trail) (sym c.is_err.ensures.value ∙ c.if-is_err.false)) refl
+
+pub returns-clause-few : goal.returns-clause-few
+returns-clause-few c =
+    let s = c.unpack-list.result.items ++ c.unpack-later.result.items in
+    let e = ap length c.append.ensures ∙ length-take 4 s in
+    let m = min-le_left 4 (length s) in
+    omega (arith, e, m)
