@@ -76,11 +76,7 @@ impl Memories<'_> {
     }
 
     fn check(self, rt: &impl Print) -> io::Result<()> {
-        self.show(rt)?;
-        show_verdict(
-            rt,
-            memory::good_board(memory::plain(self.base), self.rom, self.ram),
-        )
+        check_board(rt, self.base, self.rom, self.ram)
     }
 
     // Areas on this board.
@@ -99,6 +95,11 @@ impl Memories<'_> {
         }
         Ok(())
     }
+}
+
+fn check_board(rt: &impl Print, base: u32, rom: &[u8], ram: &[u8]) -> io::Result<()> {
+    print!(rt; "board {base:08x} {} {}", rom.len(), ram.len())?;
+    show_verdict(rt, memory::good_board(memory::plain(base), rom, ram))
 }
 
 fn write(rt: &impl Print, w: Width, base: u32, ram: &mut [u8], a: u32, x: u32) -> io::Result<()> {
@@ -287,11 +288,9 @@ fn with_arrays(
     long_data: &[u8; 65538],
 ) -> io::Result<()> {
     let base = 0x100000;
-    let (code, data) = (&code[..], &data[..]);
-    for (rom, ram) in [(code, data), (&long_code[..], data), (code, &long_data[..])] {
-        Memories { base, rom, ram }.check(rt)?;
-    }
-    Ok(())
+    check_board(rt, base, code, data)?;
+    check_board(rt, base, long_code, data)?;
+    check_board(rt, base, code, long_data)
 }
 
 const RIGHT_AREAS: [(u32, u32, u32); 6] = [
