@@ -1,5 +1,5 @@
 -- The same as the code finds it. Nothing to believe: `proofs/Stepped.antt` shows that it is what `Steps` says.
-use Rattle.std.specs.Prelude.{ℕ, false, List, [], ◌∷◌, Result, Ok, Err}
+use Rattle.std.specs.Prelude.{ℕ, List, [], ◌∷◌, Result, Ok, Err}
 use Rattle.refusal.specs.declared.Refusal.{Refusal}
 use Rattle.step.specs.Step.{step_of}
 use Rattle.step.specs.declared.StepAnswer.{StepAnswer}
@@ -8,6 +8,7 @@ use Rattle.run.specs.declared.Ending.TheVariants.{AtStop, Spent, Halted}
 use Rattle.run.specs.declared.RunAnswer.{RunAnswer}
 use Rattle.routine.specs.declared.RoutineAnswer.{RoutineAnswer}
 use Rattle.arith.specs.Widths.{num}
+use Rattle.memory.specs.Told.{no_access}
 use Rattle.memory.specs.declared.told.Access.{Access}
 use Rattle.watch.specs.Watch.{list_of}
 use Rattle.layout.specs.Lent.{overwrite}
@@ -43,7 +44,7 @@ step_lent board rom ram regs answer =
 
 -- no access; and the numbers of an access as the code has it
 abbrev pub no_entry : Access
-no_entry = record { write = false; bytes = 0; place = 0 }
+no_entry = no_access
 
 abbrev pub three : Access → List ℕ → List ℕ
 three x more = x.place ∷ x.bytes ∷ num x.write ∷ more

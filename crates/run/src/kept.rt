@@ -18,7 +18,9 @@ fn entry_of(found: Result<(Instruction, usize), Fault>, bytes: &[u8]) -> u64
     }
 }
 
-// The entry of what the decoder finds at a place.
+// The entry of what the decoder finds at a place. Cold, for the compiler: a run comes back to most places and finds their entries kept. So what goes
+// from step to step is put aside on this way alone, and not on each (docs/SPEED.md).
+#[cold]
 fn entry_at(rom: &[u8], at: usize) -> u64
     requires { at < length rom.now }
     ensures { Means rom.now at result × (result < 17592186044416) }
