@@ -1,7 +1,7 @@
 -- A list of accesses and its fields. The room that is left is known, so that the fields are known by the items. Assumes nothing.
 use Rattle.std.specs.Prelude.{ℕ, zero, suc, ◌+◌, ◌-◌, ◌≡◌, ◌≤◌, ◌<◌, List, [], ◌∷◌, ◌++◌, length, set, take, replicate}
 use Rattle.std.proofs.Common.{arith, refl, sym, ap, ◌∙◌, length-take-le, append_assoc}
-use Rattle.std.proofs.lemmas.List.{take_all, take_at, take_more_set, set-append_right, length-append}
+use Rattle.std.proofs.lemmas.List.{take_all, take_more_set, set-append_right, length-append}
 use Rattle.memory.specs.Told.{no_access}
 use Rattle.memory.specs.declared.told.Access.{Access}
 
@@ -10,17 +10,8 @@ module _ (n : ℕ) (xs : List Access) (few : n ≤ 4) (long : length xs ≡ 4) w
   counted = length-take-le n xs (omega (arith, few, long))
 
   module _ (room : xs ≡ take n xs ++ replicate (4 - n) no_access) where
-    pub filled : take n xs ++ replicate (4 - length (take n xs)) no_access ≡ xs
-    filled = ap (λ k. take n xs ++ replicate (4 - k) no_access) counted ∙ sym room
-
-    -- one more is written where the room begins
+    -- one more is written where the room begins, and the rest of it stays
     module _ (x : Access) (fits : n < 4) where
-      pub pushed : take (n + 1) (set xs n x) ≡ take 4 (take n xs ++ x ∷ [])
-      pushed =
-          let l = length-append (take n xs) (x ∷ []) in
-          take_more_set xs n x (omega (arith, fits, long))
-          ∙ sym (take_all 4 (take n xs ++ x ∷ []) (omega (arith, l, counted, fits)))
-
       pub room_after : set xs n x ≡ take (n + 1) (set xs n x) ++ replicate (4 - (n + 1)) no_access
       room_after =
           let e : 4 - n ≡ suc (4 - (n + 1)) = omega (arith, fits) in
@@ -30,10 +21,6 @@ module _ (n : ℕ) (xs : List Access) (few : n ≤ 4) (long : length xs ≡ 4) w
           ∙ ap (λ k. take n xs ++ set (no_access ∷ replicate (4 - (n + 1)) no_access) k x) z
           ∙ sym (append_assoc (take n xs) (x ∷ []) (replicate (4 - (n + 1)) no_access))
           ∙ ap (λ ys. ys ++ replicate (4 - (n + 1)) no_access) (sym (take_more_set xs n x (omega (arith, fits, long))))
-
--- and what does not fit is left out
-pub left_out : (xs : List Access) (x : Access) → length xs ≡ 4 → xs ≡ take 4 (xs ++ x ∷ [])
-left_out xs x long = sym (take_at xs (x ∷ []) 4 long)
 
 -- what was cut off before is cut off at the end as well
 pub take_in : {A : Type 0} → (n : ℕ) (s t : List A) → take n (take n s ++ t) ≡ take n (s ++ t)
