@@ -14,3 +14,6 @@ returns-then-holds g c =
       refl,
       omega (arith, l, h, n),
     )
+
+pub returns-else-holds : goal.returns-else-holds
+returns-else-holds g c = let n = c.BYTES.ensures in (sym (rw n at c.holds.ensures) ∙ c.if-holds.false, refl)
